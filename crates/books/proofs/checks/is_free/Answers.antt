@@ -1,0 +1,19 @@
+use mathlib.Core.Path.{_≡_, refl, sym, ap, subst, _∙_}
+use native.Mathlib.Omega.{arith}
+use Prim.Native.Nat.{ℕ}
+use Rattle.std.proofs.shelf.Tests.{false≢true}
+use Rattle.rules.specs.declared.records.Rule.{Rule}
+use Rattle.books.proofs.Frees.{Sought, sought-begin, sought-more, sought-all, sought-found}
+use Rattle.books.proofs.checks.is_free.Needs as need
+
+pub returns-then-known-number : need.returns-then-known-number
+returns-then-known-number g c =
+    let rules = g .B·Book .meaning (c .args .book .now) .rules in
+    let same = ap (λ (r : Rule). r .number) (sym (c .known .ensures)) ∙ c .if-known-number .taken in
+    (λ e. absurd (false≢true e), λ free. absurd (sought-found rules (c .args .number) (c .args .place) _ (c .pre .place) (omega (arith, c .loop-held .inv .within)) same free))
+
+pub returns : need.returns
+returns g c =
+    let rules = g .B·Book .meaning (c .args .book .now) .rules in
+    let none : c .loop-held .held ≡ 0 = omega arith in
+    (λ _. sought-all rules (c .args .number) (c .args .place) (c .pre .place) (subst (λ (held : ℕ). Sought rules (c .args .number) (c .args .place) held) none (c .loop-held .inv)), λ _. refl)

@@ -1,0 +1,29 @@
+-- What a book means. Assumes nothing.
+use mathlib.Core.Bool.{cond}
+use mathlib.Core.List.{List}
+use Prim.Native.Nat.{ℕ}
+use lib.Dec.{ltb}
+use lib.IntN.{pos}
+use lib.ListN.{length, getD}
+use Rattle.std.specs.declared.result.Result.{Result}
+use Rattle.std.specs.declared.result.Result.the-variants.{Ok, Err}
+use Rattle.rules.specs.declared.records.Rule.{Rule}
+use Rattle.rules.specs.declared.refusals.Refusal.{Refusal}
+use Rattle.rules.specs.declared.refusals.Refusal.the-variants.{PlacePast}
+
+-- an event count, and rules in order of place
+pub record Contents : Type 0 where
+  pub events : ℕ
+  pub rules : List Rule
+
+-- what stands past the last rule, and is never answered
+abbrev pub no-rule : Rule
+no-rule = record { number = 0; first = 0; second = 0; limit = pos 0 }
+
+-- the rule at a place, places counting from 0
+abbrev pub rule-at : List Rule → ℕ → Rule
+rule-at rules place = getD rules place no-rule
+
+-- what a book answers when it is asked for the rule at a place; 17 where it has no such place
+abbrev pub answer-at : List Rule → ℕ → Result Rule Refusal
+answer-at rules place = cond (ltb place (length rules)) (Ok (rule-at rules place)) (Err PlacePast)

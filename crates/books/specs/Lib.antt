@@ -1,0 +1,5 @@
+pub mod Contents
+pub mod Checks
+pub mod Layout
+pub mod Files
+pub mod Numbering

@@ -1,0 +1,4 @@
+pub mod Bounds
+pub mod Refusals
+pub mod Layers
+pub mod Questions
