@@ -42,7 +42,7 @@ abbrev pub outcome : {A : Type 0} → Result A Refusal → Outcome A
 outcome (Ok answer) = accepted answer
 outcome (Err refusal) = refused (number-of refusal) (place-of refusal)
 
--- the outcome that a load's result tells; the layer of its fault is that of the number
+-- the outcome that a load's result tells; the number tells the layer
 abbrev pub load-outcome : {A : Type 0} → Result A Fault → Outcome A
 load-outcome (Ok answer) = accepted answer
 load-outcome (Err fault) = refused (number-of (fault .refusal)) (place-of (fault .refusal))

@@ -11,12 +11,10 @@ pub enum Layer {
     Plan,
 }
 
-// A refusal of a load, with the layer that its number belongs to.
+// A refusal of a load. Beside number and place it names its layer, which its number tells.
 #[derive(Clone, Copy)]
 pub struct Fault {
-    layer: Layer,
-    refusal: Refusal,
-    ghost layered: { layer ≡ layer-of (number-of refusal) },
+    pub refusal: Refusal,
 }
 
 impl Fault {
@@ -24,24 +22,11 @@ impl Fault {
     pub fn layer(self) -> Layer
         ensures { λ r. ⌜ r ≡ layer-of (number-of (self .refusal)) ⌝ }
     {
-        self.layer
-    }
-
-    // The question that was answered no, and where.
-    pub fn refusal(self) -> Refusal
-        ensures { λ r. ⌜ r ≡ self .refusal ⌝ }
-    {
-        self.refusal
-    }
-}
-
-fn layer_of(number: u8) -> Layer
-    ensures { λ r. ⌜ r ≡ layer-of number ⌝ }
-{
-    match number {
-        21..=29 => Layer::File,
-        1..=6 => Layer::Book,
-        _ => Layer::Plan,
+        match self.refusal.number() {
+            21..=29 => Layer::File,
+            1..=6 => Layer::Book,
+            _ => Layer::Plan,
+        }
     }
 }
 
@@ -49,9 +34,6 @@ pub impl From<Refusal> for Fault as FaultFromRefusal {
     ghost converts = { λ e f. f .refusal ≡ e };
 
     fn from(refusal: Refusal) -> Fault {
-        Fault {
-            layer: layer_of(refusal.number()),
-            refusal,
-        }
+        Fault { refusal }
     }
 }
