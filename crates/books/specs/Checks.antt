@@ -27,9 +27,13 @@ unfoldable pub rules-questions : ℕ → List Rule → List Rule → List Questi
 rules-questions events earlier [] = []
 rules-questions events earlier (r ∷ rules) = rule-questions events (length earlier) earlier r ++ rules-questions events (earlier ++ (r ∷ [])) rules
 
--- 1 to 6
-unfoldable pub book-questions : Contents → List Question
-book-questions book =
+-- 1 and 2
+abbrev pub count-questions : Contents → List Question
+count-questions book =
     ask 1 0 ((1 ≤ book .events) × (book .events ≤ max-events))
     ∷ ask 2 0 (length (book .rules) ≤ max-rules)
-    ∷ rules-questions (book .events) [] (book .rules)
+    ∷ []
+
+-- 1 to 6
+unfoldable pub book-questions : Contents → List Question
+book-questions book = count-questions book ++ rules-questions (book .events) [] (book .rules)

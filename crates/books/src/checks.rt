@@ -8,7 +8,7 @@ ghost use Rattle.rules.specs.Bounds.{max-rules, min-limit, max-limit};
 ghost use Rattle.rules.specs.Questions.{Answered, outcome};
 ghost use Rattle.links.specs.Links.{Linked};
 ghost use Rattle.books.specs.Contents.{rule-at};
-ghost use Rattle.books.specs.Checks.{Free, rule-questions, rules-questions, book-questions};
+ghost use Rattle.books.specs.Checks.{Free, rule-questions, rules-questions, count-questions, book-questions};
 ghost use Rattle.books.specs.Numbering.{remainders, remainder-of};
 use crate::Book;
 use links::link;
@@ -34,6 +34,14 @@ fn known<B: Book>(book: &B, place: u16) -> Rule
     }
 }
 
+// Whether the rule at a place bears the number.
+fn bears<B: Book>(book: &B, place: u16, number: RuleNumber) -> bool
+    requires { ⌜ place < length (meaning (now book) .rules) ⌝ }
+    ensures { λ r. ⌜ Decides r (rule-at (meaning (now (book .entry)) .rules) place .number ≡ number) ⌝ }
+{
+    known(book, place).number == number
+}
+
 // Whether none of the first rules bears the number.
 fn is_free<B: Book>(book: &B, number: RuleNumber, place: u16, heads: &[u16], nexts: &[u16]) -> bool
     requires place { ⌜ place ≤ length (meaning (now book) .rules) ⌝ }
@@ -44,7 +52,7 @@ fn is_free<B: Book>(book: &B, number: RuleNumber, place: u16, heads: &[u16], nex
 {
     let mut held = heads[(number % REMAINDERS) as usize];
     while held > 0 {
-        if known(book, held - 1).number == number {
+        if bears(book, held - 1, number) {
             return false;
         }
         held = nexts[held as usize - 1];
@@ -98,9 +106,9 @@ fn check_rules<B: Book>(book: &B) -> Result<(), Refusal>
     Ok(())
 }
 
-// Puts questions 1 to 6 to a book: refused at the first that is answered no, at its place.
-pub fn check<B: Book>(book: &B) -> Result<(), Refusal>
-    ensures { λ r. ⌜ Answered (book-questions (meaning (now (book .entry)))) (outcome r) ⌝ }
+// Puts questions 1 and 2.
+fn check_counts<B: Book>(book: &B) -> Result<(), Refusal>
+    ensures { λ r. ⌜ Answered (count-questions (meaning (now (book .entry)))) (outcome r) ⌝ }
 {
     let events = book.events();
     if events < 1 || events > MAX_EVENTS {
@@ -109,5 +117,13 @@ pub fn check<B: Book>(book: &B) -> Result<(), Refusal>
     if book.count() > MAX_RULES {
         return Err(Refusal::RuleCount);
     }
+    Ok(())
+}
+
+// Puts questions 1 to 6 to a book: refused at the first that is answered no, at its place.
+pub fn check<B: Book>(book: &B) -> Result<(), Refusal>
+    ensures { λ r. ⌜ Answered (book-questions (meaning (now (book .entry)))) (outcome r) ⌝ }
+{
+    check_counts(book)?;
     check_rules(book)
 }

@@ -1,12 +1,12 @@
 ghost use mathlib.Core.Path.{_≡_};
-ghost use Prim.Native.Nat.{_+_, _<_, _≤_};
+ghost use Prim.Native.Nat.{ℕ, _+_, _<_, _≤_};
 ghost use denote.Ref.{now};
 ghost use lib.ListN.{length, take};
 ghost use Rattle.std.specs.Options.{Cases as BySome};
 ghost use Rattle.std.specs.Orderings.{Decides};
 ghost use Rattle.std.specs.Results.{Cases};
-ghost use Rattle.rules.specs.Questions.{AllYes, Answered, outcome};
-ghost use Rattle.books.specs.Layout.{mark, byte-at, u16-at, events-start, rule-start};
+ghost use Rattle.rules.specs.Questions.{Answered, outcome};
+ghost use Rattle.books.specs.Layout.{mark, byte-at, u16-at, events-start, count-start, rule-start, name-start, part};
 ghost use Rattle.books.specs.Files.{rule-from, book-of, name-of, HasName, Letter, Spelled, head-questions, name-questions, file-questions};
 use crate::Book;
 use rules::Refusal;
@@ -48,6 +48,18 @@ fn word(bytes: &[u8], at: usize) -> u16
     ensures { λ r. ⌜ r ≡ u16-at (now (bytes .entry)) at ⌝ }
 {
     u16::from_be_bytes([byte(bytes, at), byte(bytes, at + 1)])
+}
+
+fn event_count(bytes: &[u8]) -> u16
+    ensures { λ r. ⌜ r ≡ u16-at (now (bytes .entry)) events-start ⌝ }
+{
+    word(bytes, EVENTS_START)
+}
+
+fn rule_count(bytes: &[u8]) -> u16
+    ensures { λ r. ⌜ r ≡ u16-at (now (bytes .entry)) count-start ⌝ }
+{
+    word(bytes, COUNT_START)
 }
 
 // Where the rule at a place starts.
@@ -96,11 +108,11 @@ fn check_head(bytes: &[u8]) -> Result<(), Refusal>
     if word(bytes, VERSION_START) != VERSION {
         return Err(Refusal::FileVersion);
     }
-    let events = word(bytes, EVENTS_START);
+    let events = event_count(bytes);
     if events < 1 || events > MAX_EVENTS {
         return Err(Refusal::FileEvents);
     }
-    let count = word(bytes, COUNT_START);
+    let count = rule_count(bytes);
     if count > MAX_RULES {
         return Err(Refusal::FileRules);
     }
@@ -143,15 +155,45 @@ fn check_name(bytes: &[u8], at: usize) -> Result<usize, Refusal>
     Ok(end)
 }
 
+// Where the length byte of an event's name stands.
+fn start_of_name(bytes: &[u8], event: u16) -> usize
+    ensures start { λ r. ⌜ r ≡ name-start (now (bytes .entry)) event ⌝ }
+    ensures small { λ r. ⌜ r ≤ 20_000_000 ⌝ }
+{
+    let mut at = start_of(rule_count(bytes));
+    for passed in 0..event {
+        at += 1 + byte(bytes, at) as usize;
+    }
+    at
+}
+
+// The part of the bytes that starts at a place and has so many bytes, as far as they go.
+fn part_of(bytes: &[u8], start: usize, size: u8) -> &[u8]
+    requires { ⌜ start ≤ 30_000_000 ⌝ }
+    ensures { λ r. ⌜ now r ≡ part (now (bytes .entry)) start size ⌝ }
+{
+    let length = bytes.len();
+    &bytes[start.min(length)..(start + size as usize).min(length)]
+}
+
+// The name whose length byte is at a place.
+fn name_at(bytes: &[u8], at: usize) -> &[u8]
+    requires { ⌜ at ≤ 20_000_000 ⌝ }
+    ensures { λ r. ⌜ now r ≡ part (now (bytes .entry)) (at + 1) (byte-at (now (bytes .entry)) at) ⌝ }
+{
+    part_of(bytes, at + 1, byte(bytes, at))
+}
+
 impl<'a> Packed<'a> {
     // The book of a file: refused at the first of questions 21 to 29 that is answered no.
     pub fn open(bytes: &'a [u8]) -> Result<Packed<'a>, Refusal>
         ensures answer { λ r. ⌜ Answered (file-questions (now (bytes .entry))) (outcome r) ⌝ }
-        ensures same { λ r. ⌜ Cases r (λ b. now (b .bytes) ≡ now (bytes .entry)) (λ _. Unit {0}) ⌝ }
+        ensures file { λ r. ⌜ Cases r (λ b. now (b .bytes) ≡ now (bytes .entry)) (λ _. Unit {0}) ⌝ }
+        ensures names { λ r. ⌜ Cases r (λ _. (event : ℕ) → event < u16-at (now (bytes .entry)) events-start → Spelled (name-of (now (bytes .entry)) event)) (λ _. Unit {0}) ⌝ }
     {
         check_head(bytes)?;
-        let mut at = start_of(word(bytes, COUNT_START));
-        for event in 0..word(bytes, EVENTS_START) {
+        let mut at = start_of(rule_count(bytes));
+        for event in 0..event_count(bytes) {
             at = check_name(bytes, at)?;
         }
         if at != bytes.len() {
@@ -162,20 +204,14 @@ impl<'a> Packed<'a> {
 
     // The name of an event, a part of the file's own bytes; none where the book has no such event.
     pub fn name(&self, event: u16) -> Option<&'a [u8]>
-        ensures part { λ r. ⌜ BySome r (u16-at (now (now (self .entry) .bytes)) events-start ≤ event) (λ s. (event < u16-at (now (now (self .entry) .bytes)) events-start) × (now s ≡ name-of (now (now (self .entry) .bytes)) event)) ⌝ }
-        ensures spelled { λ r. ⌜ (AllYes (file-questions (now (now (self .entry) .bytes))) → BySome r (Unit {0}) (λ s. Spelled (now s))) ⌝ }
+        ensures { λ r. ⌜ BySome r (u16-at (now (now (self .entry) .bytes)) events-start ≤ event) (λ s. (event < u16-at (now (now (self .entry) .bytes)) events-start) × (now s ≡ name-of (now (now (self .entry) .bytes)) event)) ⌝ }
     {
         let bytes = self.bytes;
-        if event >= self.events() {
-            return None;
+        if event < event_count(bytes) {
+            Some(name_at(bytes, start_of_name(bytes, event)))
+        } else {
+            None
         }
-        let mut at = start_of(self.count());
-        for passed in 0..event {
-            at += 1 + byte(bytes, at) as usize;
-        }
-        let end = at + 1 + byte(bytes, at) as usize;
-        let length = bytes.len();
-        Some(&bytes[(at + 1).min(length)..end.min(length)])
     }
 }
 
@@ -183,11 +219,11 @@ pub impl<'a> Book for Packed<'a> as PackedBook {
     ghost meaning = { λ b. book-of (now (b .bytes)) };
 
     fn events(&self) -> u16 {
-        word(self.bytes, EVENTS_START)
+        event_count(self.bytes)
     }
 
     fn count(&self) -> u16 {
-        word(self.bytes, COUNT_START)
+        rule_count(self.bytes)
     }
 
     fn rule(&self, place: u16) -> Result<Rule, Refusal> {

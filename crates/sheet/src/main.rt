@@ -19,6 +19,9 @@ use std::io::Write;
 
 mod settling;
 
+#[cfg(test)]
+mod tests;
+
 // One byte past the longest lawful file: 9 bytes, 4,096 rules of 10, and 1,024 names of 12, each after a length byte.
 const MOST_BYTES: u64 = 54_282;
 

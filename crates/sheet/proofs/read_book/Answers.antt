@@ -16,10 +16,10 @@ returns-in-Break-check c =
     let file = c .args .bytes .now in
     let opened = c .in-Continue-book .ensures tt in
     let p = err-from-errBy (c .from-residual-in-Break-check .result) (c .from-residual-in-Break-check .ensures .1) in
-    rw (p .1, p .2) (record { answer = no-right (file-questions file) (book-questions (book-of file)) _ _ (opened .answer) (rw (opened .same) at (c .in-Break-check .ensures tt)); same = tt })
+    rw (p .1, p .2) (record { answer = no-right (file-questions file) (book-questions (book-of file)) _ _ (opened .answer) (rw (opened .file) at (c .in-Break-check .ensures tt)); same = tt })
 
 pub returns : need.returns
 returns c =
     let file = c .args .bytes .now in
     let opened = c .in-Continue-book .ensures tt in
-    record { answer = yes-++ (file-questions file) (book-questions (book-of file)) (opened .answer) (rw (opened .same) at (c .in-Continue-check .ensures tt)); same = opened .same }
+    record { answer = yes-++ (file-questions file) (book-questions (book-of file)) (opened .answer) (rw (opened .file) at (c .in-Continue-check .ensures tt)); same = opened .file }

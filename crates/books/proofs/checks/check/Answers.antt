@@ -1,19 +1,18 @@
-use native.Mathlib.Omega.{arith}
+use Rattle.std.proofs.shelf.Results.{err-from-errBy}
 use Rattle.rules.specs.Questions.{outcome}
-use Rattle.rules.proofs.Asking.{begin, next, stop, answers}
-use Rattle.books.specs.Checks.{book-questions}
+use Rattle.rules.proofs.Asking.{begin, past, no-left, answers}
+use Rattle.books.specs.Checks.{count-questions, rules-questions, book-questions}
 use Rattle.books.proofs.checks.check.Needs as need
 
-pub returns-then-events-lt1 : need.returns-then-events-lt1
+pub returns-in-Break-check-counts : need.returns-in-Break-check-counts
 unfolding book-questions
-returns-then-events-lt1 g c = stop (begin (book-questions (g .B·Book .meaning (c .args .book .now)))) (λ both. let low = both .0 in let high = both .1 in omega arith)
-
-pub returns-then-count-gt-MAX-RULES : need.returns-then-count-gt-MAX-RULES
-unfolding book-questions
-returns-then-count-gt-MAX-RULES g c = stop (next (begin (book-questions (g .B·Book .meaning (c .args .book .now)))) (omega arith)) (λ few. omega arith)
+returns-in-Break-check-counts g c =
+    let book = g .B·Book .meaning (c .args .book .now) in
+    let p = err-from-errBy (c .from-residual .result) (c .from-residual .ensures .1) in
+    rw (p .1, p .2) (no-left (count-questions book) _ _ _ (c .in-Break-check-counts .ensures tt))
 
 pub returns : need.returns
 unfolding book-questions
 returns g c =
-    let counted = next (next (begin (book-questions (g .B·Book .meaning (c .args .book .now)))) (omega arith)) (omega arith) in
-    answers counted (outcome (c .check-rules .result)) (c .check-rules .ensures)
+    let book = g .B·Book .meaning (c .args .book .now) in
+    answers (past (count-questions book) _ (begin (book-questions book)) (c .in-Continue-check-counts .ensures tt)) (outcome (c .check-rules .result)) (c .check-rules .ensures)

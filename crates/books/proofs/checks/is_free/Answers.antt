@@ -6,10 +6,10 @@ use Rattle.rules.specs.declared.records.Rule.{Rule}
 use Rattle.books.proofs.Frees.{Sought, sought-begin, sought-more, sought-all, sought-found}
 use Rattle.books.proofs.checks.is_free.Needs as need
 
-pub returns-then-known-number : need.returns-then-known-number
-returns-then-known-number g c =
+pub returns-then-bears : need.returns-then-bears
+returns-then-bears g c =
     let rules = g .B·Book .meaning (c .args .book .now) .rules in
-    let same = ap (λ (r : Rule). r .number) (sym (c .known .ensures)) ∙ c .if-known-number .taken in
+    let same = c .bears .ensures .0 (c .if-bears .taken) in
     (λ e. absurd (false≢true e), λ free. absurd (sought-found rules (c .args .number) (c .args .place) _ (c .pre .place) (omega (arith, c .loop-held .inv .within)) same free))
 
 pub returns : need.returns

@@ -3,4 +3,4 @@ use Rattle.books.proofs.Parts.{count-is}
 use Rattle.books.proofs.files.PackedBook.count.Needs as need
 
 pub returns : need.returns
-returns c = c .word .ensures ∙ sym (count-is (c .args .self .now .bytes .now))
+returns c = c .rule-count .ensures ∙ sym (count-is (c .args .self .now .bytes .now))

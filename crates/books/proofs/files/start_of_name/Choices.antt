@@ -1,7 +1,7 @@
 use mathlib.Core.Path.{_≡_}
 use Prim.Native.Nat.{_+_, _*_, _≤_}
 use Rattle.books.specs.Layout.{name-start}
-use Rattle.books.proofs.files.Packed.name.Given as given
+use Rattle.books.proofs.files.start_of_name.Given as given
 
 -- the place stays far below the largest number
 abbrev pub Inv-loop-passed : given.InvT-loop-passed
