@@ -3,3 +3,4 @@ pub mod Checks
 pub mod Layout
 pub mod Files
 pub mod Numbering
+pub mod Opened

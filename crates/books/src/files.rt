@@ -6,6 +6,7 @@ ghost use Rattle.std.specs.Options.{Cases as BySome};
 ghost use Rattle.std.specs.Orderings.{Decides};
 ghost use Rattle.std.specs.Results.{Cases};
 ghost use Rattle.rules.specs.Questions.{Answered, outcome};
+ghost use Rattle.books.specs.Opened.{file-of};
 ghost use Rattle.books.specs.Layout.{mark, byte-at, u16-at, events-start, count-start, rule-start, name-start, part};
 ghost use Rattle.books.specs.Files.{rule-from, book-of, name-of, HasName, Letter, Spelled, head-questions, name-questions, file-questions};
 use crate::Book;
@@ -188,7 +189,7 @@ impl<'a> Packed<'a> {
     // The book of a file: refused at the first of questions 21 to 29 that is answered no.
     pub fn open(bytes: &'a [u8]) -> Result<Packed<'a>, Refusal>
         ensures answer { λ r. ⌜ Answered (file-questions (now (bytes .entry))) (outcome r) ⌝ }
-        ensures file { λ r. ⌜ Cases r (λ b. now (b .bytes) ≡ now (bytes .entry)) (λ _. Unit {0}) ⌝ }
+        ensures file { λ r. ⌜ Cases r (λ b. file-of b ≡ now (bytes .entry)) (λ _. Unit {0}) ⌝ }
         ensures names { λ r. ⌜ Cases r (λ _. (event : ℕ) → event < u16-at (now (bytes .entry)) events-start → Spelled (name-of (now (bytes .entry)) event)) (λ _. Unit {0}) ⌝ }
     {
         check_head(bytes)?;
@@ -204,7 +205,7 @@ impl<'a> Packed<'a> {
 
     // The name of an event, a part of the file's own bytes; none where the book has no such event.
     pub fn name(&self, event: u16) -> Option<&'a [u8]>
-        ensures { λ r. ⌜ BySome r (u16-at (now (now (self .entry) .bytes)) events-start ≤ event) (λ s. (event < u16-at (now (now (self .entry) .bytes)) events-start) × (now s ≡ name-of (now (now (self .entry) .bytes)) event)) ⌝ }
+        ensures { λ r. ⌜ BySome r (u16-at (file-of (now (self .entry))) events-start ≤ event) (λ s. (event < u16-at (file-of (now (self .entry))) events-start) × (now s ≡ name-of (file-of (now (self .entry))) event)) ⌝ }
     {
         let bytes = self.bytes;
         if event < event_count(bytes) {
@@ -216,7 +217,7 @@ impl<'a> Packed<'a> {
 }
 
 pub impl<'a> Book for Packed<'a> as PackedBook {
-    ghost meaning = { λ b. book-of (now (b .bytes)) };
+    ghost meaning = { λ b. book-of (file-of b) };
 
     fn events(&self) -> u16 {
         event_count(self.bytes)

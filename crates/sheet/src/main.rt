@@ -3,6 +3,7 @@ ghost use mathlib.Core.Path.{_≡_};
 ghost use denote.Ref.{now};
 ghost use Rattle.std.specs.Results.{Cases};
 ghost use Rattle.rules.specs.Questions.{Answered, load-outcome};
+ghost use Rattle.books.specs.Opened.{file-of};
 ghost use Rattle.sheet.specs.Reads.{read-questions};
 use books::Book;
 use books::Packed;
@@ -28,7 +29,7 @@ const MOST_BYTES: u64 = 54_282;
 // The book of a file: refused at the first no of questions 21 to 29 and then 1 to 6.
 fn read_book(bytes: &[u8]) -> Result<Packed, Fault>
     ensures answer { λ r. ⌜ Answered (read-questions (now (bytes .entry))) (load-outcome r) ⌝ }
-    ensures same { λ r. ⌜ Cases r (λ b. now (b .bytes) ≡ now (bytes .entry)) (λ _. Unit {0}) ⌝ }
+    ensures file { λ r. ⌜ Cases r (λ b. file-of b ≡ now (bytes .entry)) (λ _. Unit {0}) ⌝ }
 {
     let book = Packed::open(bytes)?;
     check(&book)?;
