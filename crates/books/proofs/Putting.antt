@@ -6,10 +6,9 @@ use native.Mathlib.Omega.{arith}
 use lib.ListN.{length, take, drop}
 use Rattle.std.proofs.shelf.Lists.{take-more, drop-more, drop-all, length-take-le}
 use Rattle.rules.specs.declared.records.Rule.{Rule}
-use Rattle.rules.specs.Bounds.{max-events, max-rules}
 use Rattle.rules.specs.Questions.{Question, AllYes, FirstNo}
-use Rattle.rules.proofs.Asking.{Left, begin, next, stop, past, within}
-use Rattle.books.specs.Contents.{Contents, rule-at, no-rule}
+use Rattle.rules.proofs.Asking.{Left, begin, past, within}
+use Rattle.books.specs.Contents.{rule-at, no-rule}
 use Rattle.books.specs.Checks.{rule-questions, rules-questions, book-questions}
 
 module _ (events : ℕ) (rules : List Rule) where

@@ -7,7 +7,7 @@ use lib.ListN.{length}
 use Rattle.rules.specs.Bounds.{max-events, max-rules, min-limit, max-limit}
 use Rattle.rules.specs.Questions.{Question, ask}
 use Rattle.rules.specs.declared.records.Rule.{Rule}
-use Rattle.books.specs.Contents.{Contents, rule-at}
+use Rattle.books.specs.Contents.{BookContents, rule-at}
 
 -- no rule among these bears the number
 abbrev pub Free : ℕ → List Rule → Type 0
@@ -28,12 +28,12 @@ rules-questions events earlier [] = []
 rules-questions events earlier (r ∷ rules) = rule-questions events (length earlier) earlier r ++ rules-questions events (earlier ++ (r ∷ [])) rules
 
 -- 1 and 2
-abbrev pub count-questions : Contents → List Question
+abbrev pub count-questions : BookContents → List Question
 count-questions book =
     ask 1 0 ((1 ≤ book .events) × (book .events ≤ max-events))
     ∷ ask 2 0 (length (book .rules) ≤ max-rules)
     ∷ []
 
 -- 1 to 6
-unfoldable pub book-questions : Contents → List Question
+unfoldable pub book-questions : BookContents → List Question
 book-questions book = count-questions book ++ rules-questions (book .events) [] (book .rules)

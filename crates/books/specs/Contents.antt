@@ -12,7 +12,7 @@ use Rattle.rules.specs.declared.refusals.Refusal.{Refusal}
 use Rattle.rules.specs.declared.refusals.Refusal.the-variants.{PlacePast}
 
 -- an event count, and rules in order of place
-pub record Contents : Type 0 where
+pub record BookContents : Type 0 where
   pub events : ℕ
   pub rules : List Rule
 

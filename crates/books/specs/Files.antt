@@ -8,7 +8,7 @@ use Rattle.std.specs.Iters.{counting}
 use Rattle.rules.specs.Bounds.{max-events, max-rules}
 use Rattle.rules.specs.Questions.{Question, ask}
 use Rattle.rules.specs.declared.records.Rule.{Rule}
-use Rattle.books.specs.Contents.{Contents}
+use Rattle.books.specs.Contents.{BookContents}
 use Rattle.books.specs.Layout.{mark, version, version-start, events-start, count-start, head-size, rule-start, first-field, second-field, limit-field, max-name, min-letter, max-letter, byte-at, u16-at, u32-at, signed, name-start, part}
 
 -- the rule whose bytes start at a place
@@ -16,7 +16,7 @@ abbrev pub rule-from : List ℕ → ℕ → Rule
 rule-from file at = record { number = u16-at file at; first = u16-at file (at + first-field); second = u16-at file (at + second-field); limit = signed (u32-at file (at + limit-field)) }
 
 -- the book that a file holds
-abbrev pub book-of : List ℕ → Contents
+abbrev pub book-of : List ℕ → BookContents
 book-of file = record { events = u16-at file events-start; rules = map (λ place. rule-from file (rule-start place)) (counting 0 (u16-at file count-start)) }
 
 -- the name of an event

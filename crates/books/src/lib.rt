@@ -1,7 +1,7 @@
 // Books of rules: what a book means, the two kinds there are, and the questions that every book is put.
 ghost use mathlib.Core.Path.{_≡_};
 ghost use lib.ListN.{length};
-ghost use Rattle.books.specs.Contents.{Contents, answer-at};
+ghost use Rattle.books.specs.Contents.{BookContents, answer-at};
 use rules::Refusal;
 use rules::Rule;
 
@@ -18,7 +18,7 @@ pub use lists::ListedBook;
 // A book means an event count and a list of rules. Asking leaves it what it was.
 // It may hold faulty rules: the calls that take a book check it.
 pub trait Book {
-    ghost meaning: { Self → Contents };
+    ghost meaning: { Self → BookContents };
 
     // How many events the book speaks of.
     fn events(&self) -> u16
