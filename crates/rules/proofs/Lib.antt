@@ -1,1 +1,17 @@
 pub mod Asking
+pub mod Members
+pub mod Along
+pub mod Shorten
+pub mod Lengths
+pub mod Least
+pub mod Reach
+pub mod Latest
+pub mod Decided
+pub mod Among
+pub mod Distances
+pub mod Leads
+pub mod Fewest
+pub mod Ends
+pub mod Alike
+pub mod Reduced
+pub mod Worked

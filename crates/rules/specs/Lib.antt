@@ -2,3 +2,16 @@ pub mod Bounds
 pub mod Refusals
 pub mod Layers
 pub mod Questions
+pub mod Meets
+pub mod Chains
+pub mod Rings
+pub mod Settled
+pub mod Leads
+pub mod Distances
+pub mod Prices
+pub mod TheoremsChains
+pub mod TheoremsTimes
+pub mod TheoremsLeads
+pub mod TheoremsDistances
+pub mod TheoremsPrices
+pub mod Fills

@@ -3,6 +3,8 @@
 pub mod faults;
 pub mod records;
 pub mod refusals;
+pub mod theory;
+pub mod times;
 
 pub use faults::Fault;
 pub use faults::FaultFromRefusal;
@@ -11,3 +13,4 @@ pub use records::EventNumber;
 pub use records::Rule;
 pub use records::RuleNumber;
 pub use refusals::Refusal;
+pub use times::meets;
