@@ -1,0 +1,3 @@
+pub mod Exactness
+pub mod Numbers
+pub mod Pairs

@@ -1,0 +1,2 @@
+pub mod HeapOrder
+pub mod Meanings

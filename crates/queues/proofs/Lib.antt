@@ -1,0 +1,4 @@
+pub mod Order
+pub mod Scans
+pub mod Offers
+pub mod InOrder

@@ -1,0 +1,4 @@
+pub mod Contents
+pub mod SlotKeys
+pub mod Meanings
+pub mod Sorts
