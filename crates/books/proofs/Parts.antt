@@ -9,7 +9,7 @@ use lib.ListN.{length, take, drop, length-drop}
 use Rattle.std.proofs.shelf.Lists.{take-all, drop-all}
 use Rattle.std.proofs.shelf.Tests.{cases-lt}
 use Rattle.std.proofs.shelf.Counted.{length-map-counting, getD-map-counting}
-use Rattle.books.specs.Contents.{rule-at, no-rule}
+use Rattle.rules.specs.Places.{rule-at, no-rule}
 use Rattle.books.specs.Layout.{count-start, rule-start, byte-at, u16-at, name-start, part}
 use Rattle.books.specs.Files.{rule-from, book-of}
 

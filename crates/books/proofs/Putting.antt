@@ -1,6 +1,6 @@
 -- How far the rules of a book were asked about. Assumes nothing.
 use mathlib.Core.Path.{_≡_}
-use mathlib.Core.List.{List, [], _∷_, _++_}
+use mathlib.Core.List.{List, [], _++_}
 use Prim.Native.Nat.{ℕ, _+_, _<_, _≤_}
 use native.Mathlib.Omega.{arith}
 use lib.ListN.{length, take, drop}
@@ -8,8 +8,8 @@ use Rattle.std.proofs.shelf.Lists.{take-more, drop-more, drop-all, length-take-
 use Rattle.rules.specs.declared.records.Rule.{Rule}
 use Rattle.rules.specs.Questions.{Question, AllYes, FirstNo}
 use Rattle.rules.proofs.Asking.{Left, begin, past, within}
-use Rattle.books.specs.Contents.{rule-at, no-rule}
-use Rattle.books.specs.Checks.{rule-questions, rules-questions, book-questions}
+use Rattle.rules.specs.Places.{rule-at, no-rule}
+use Rattle.books.specs.Checks.{rule-questions, rules-questions}
 
 module _ (events : ℕ) (rules : List Rule) where
   -- of the rule at a place

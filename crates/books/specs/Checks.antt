@@ -7,7 +7,8 @@ use lib.ListN.{length}
 use Rattle.rules.specs.Bounds.{max-events, max-rules, min-limit, max-limit}
 use Rattle.rules.specs.Questions.{Question, ask}
 use Rattle.rules.specs.declared.records.Rule.{Rule}
-use Rattle.books.specs.Contents.{BookContents, rule-at}
+use Rattle.rules.specs.Places.{rule-at}
+use Rattle.books.specs.Contents.{BookContents}
 
 -- no rule among these bears the number
 abbrev pub Free : ℕ → List Rule → Type 0

@@ -3,11 +3,11 @@ use mathlib.Core.Bool.{cond}
 use mathlib.Core.List.{List}
 use Prim.Native.Nat.{ℕ}
 use lib.Dec.{ltb}
-use lib.IntN.{pos}
-use lib.ListN.{length, getD}
+use lib.ListN.{length}
 use Rattle.std.specs.declared.result.Result.{Result}
 use Rattle.std.specs.declared.result.Result.the-variants.{Ok, Err}
 use Rattle.rules.specs.declared.records.Rule.{Rule}
+use Rattle.rules.specs.Places.{rule-at}
 use Rattle.rules.specs.declared.refusals.Refusal.{Refusal}
 use Rattle.rules.specs.declared.refusals.Refusal.the-variants.{PlacePast}
 
@@ -15,14 +15,6 @@ use Rattle.rules.specs.declared.refusals.Refusal.the-variants.{PlacePast}
 pub record BookContents : Type 0 where
   pub events : ℕ
   pub rules : List Rule
-
--- what stands past the last rule, and is never answered
-abbrev pub no-rule : Rule
-no-rule = record { number = 0; first = 0; second = 0; limit = pos 0 }
-
--- the rule at a place, places counting from 0
-abbrev pub rule-at : List Rule → ℕ → Rule
-rule-at rules place = getD rules place no-rule
 
 -- what a book answers when it is asked for the rule at a place; 17 where it has no such place
 abbrev pub answer-at : List Rule → ℕ → Result Rule Refusal

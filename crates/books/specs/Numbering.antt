@@ -2,7 +2,7 @@
 use mathlib.Core.List.{List}
 use Prim.Native.Nat.{ℕ, _%_}
 use Rattle.rules.specs.declared.records.Rule.{Rule}
-use Rattle.books.specs.Contents.{rule-at}
+use Rattle.rules.specs.Places.{rule-at}
 
 -- how many remainders there are
 abbrev pub remainders : ℕ

@@ -7,7 +7,7 @@ ghost use Rattle.std.specs.Orderings.{Decides};
 ghost use Rattle.rules.specs.Bounds.{max-rules, min-limit, max-limit};
 ghost use Rattle.rules.specs.Questions.{Answered, outcome};
 ghost use Rattle.links.specs.Links.{Linked};
-ghost use Rattle.books.specs.Contents.{rule-at};
+ghost use Rattle.rules.specs.Places.{rule-at};
 ghost use Rattle.books.specs.Checks.{Free, rule-questions, rules-questions, count-questions, book-questions};
 ghost use Rattle.books.specs.Numbering.{remainders, remainder-of};
 use crate::Book;

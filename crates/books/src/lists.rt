@@ -2,7 +2,7 @@ ghost use mathlib.Core.Path.{_≡_};
 ghost use Prim.Native.Nat.{_<_, min};
 ghost use denote.Ref.{now};
 ghost use lib.ListN.{length, take};
-ghost use Rattle.books.specs.Contents.{BookContents, rule-at};
+ghost use Rattle.rules.specs.Places.{rule-at};
 ghost use Rattle.rules.specs.Bounds.{max-count};
 use crate::Book;
 use rules::Refusal;

@@ -20,7 +20,7 @@ use Rattle.rules.proofs.Least.{Least, Over, least-path, least-one, least-below
 use Rattle.rules.proofs.Reach.{chain-over, decide-chain}
 use Rattle.rules.proofs.Fewest.{fewest-rules}
 
-place-of : (rules : List Rule) (r : Rule) → r ∈ rules → (place : ℕ) × StandsAt rules place r
+pub place-of : (rules : List Rule) (r : Rule) → r ∈ rules → (place : ℕ) × StandsAt rules place r
 place-of [] r m = absurd (List·Memᴰ·not-nil m)
 place-of (q ∷ rules) r m = pick (place-of rules r) (List·Memᴰ·cases-cons m)
   where

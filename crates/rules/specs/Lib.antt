@@ -2,6 +2,7 @@ pub mod Bounds
 pub mod Refusals
 pub mod Layers
 pub mod Questions
+pub mod Places
 pub mod Meets
 pub mod Chains
 pub mod Rings

@@ -1,4 +1,3 @@
-use mathlib.Core.Path.{_≡_}
 use Rattle.std.proofs.shelf.Results.{err-from-errBy}
 use Rattle.rules.proofs.Asking.{yes-++, no-left, no-right}
 use Rattle.books.specs.Files.{file-questions, book-of}

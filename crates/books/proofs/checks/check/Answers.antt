@@ -1,7 +1,7 @@
 use Rattle.std.proofs.shelf.Results.{err-from-errBy}
 use Rattle.rules.specs.Questions.{outcome}
 use Rattle.rules.proofs.Asking.{begin, past, no-left, answers}
-use Rattle.books.specs.Checks.{count-questions, rules-questions, book-questions}
+use Rattle.books.specs.Checks.{count-questions, book-questions}
 use Rattle.books.proofs.checks.check.Needs as need
 
 pub returns-in-Break-check-counts : need.returns-in-Break-check-counts

@@ -1,9 +1,8 @@
-use mathlib.Core.Path.{_≡_, refl, sym, ap, subst, _∙_}
+use mathlib.Core.Path.{_≡_, refl, subst}
 use native.Mathlib.Omega.{arith}
 use Prim.Native.Nat.{ℕ}
 use Rattle.std.proofs.shelf.Tests.{false≢true}
-use Rattle.rules.specs.declared.records.Rule.{Rule}
-use Rattle.books.proofs.Frees.{Sought, sought-begin, sought-more, sought-all, sought-found}
+use Rattle.books.proofs.Frees.{Sought, sought-all, sought-found}
 use Rattle.books.proofs.checks.is_free.Needs as need
 
 pub returns-then-bears : need.returns-then-bears
