@@ -1,0 +1,9 @@
+pub mod Events
+pub mod Keys
+pub mod Keeping
+pub mod Relaxing
+pub mod Taking
+pub mod Walking
+pub mod Routes
+pub mod Sums
+pub mod Begins
