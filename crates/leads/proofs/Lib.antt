@@ -1,0 +1,4 @@
+mod Alone
+mod Totals
+mod Best
+mod Public

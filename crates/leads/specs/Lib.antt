@@ -1,0 +1,5 @@
+pub mod Priced
+pub mod Tellings
+pub mod Counts
+pub mod Weights
+pub mod Labels
