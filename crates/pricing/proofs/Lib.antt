@@ -1,0 +1,4 @@
+pub mod Explores
+pub mod Mends
+pub mod Lowers
+pub mod Steps
