@@ -21,8 +21,8 @@ const REMAINDERS: u16 = 4_096;
 
 // The rule at a place that the book has.
 pub fn known<B: Book>(book: &B, place: u16) -> Rule
-    requires { place < length (meaning book.now).rules }
-    ensures { result ≡ rule_at (meaning book.now).rules place }
+    requires { place < length (B.Book.meaning book.now).rules }
+    ensures { result ≡ rule_at (B.Book.meaning book.now).rules place }
 {
     match book.rule(place) {
         Ok(rule) => rule,
@@ -32,19 +32,19 @@ pub fn known<B: Book>(book: &B, place: u16) -> Rule
 
 // Whether the rule at a place bears the number.
 fn bears<B: Book>(book: &B, place: u16, number: RuleNumber) -> bool
-    requires { place < length (meaning book.now).rules }
-    ensures { Decides result ((rule_at (meaning book.now).rules place).number ≡ number) }
+    requires { place < length (B.Book.meaning book.now).rules }
+    ensures { Decides result ((rule_at (B.Book.meaning book.now).rules place).number ≡ number) }
 {
     known(book, place).number == number
 }
 
 // Whether none of the first rules bears the number.
 fn is_free<B: Book>(book: &B, number: RuleNumber, place: u16, heads: &[u16], nexts: &[u16]) -> bool
-    requires place { place ≤ length (meaning book.now).rules }
+    requires place { place ≤ length (B.Book.meaning book.now).rules }
     requires heads { length heads.now ≡ remainders }
     requires nexts { place ≤ length nexts.now }
-    requires linked { Linked (remainder_of (meaning book.now).rules) place heads.now nexts.now }
-    ensures { Decides result (Free number (take place (meaning book.now).rules)) }
+    requires linked { Linked (remainder_of (B.Book.meaning book.now).rules) place heads.now nexts.now }
+    ensures { Decides result (Free number (take place (B.Book.meaning book.now).rules)) }
 {
     let mut held = heads[(number % REMAINDERS) as usize];
     while held > 0 {
@@ -64,11 +64,11 @@ fn within_limits(limit: i32) -> bool
 
 // Puts questions 3 to 6 of the rule at a place, beside the rules at the places before it.
 fn check_rule<B: Book>(book: &B, place: u16, heads: &[u16], nexts: &[u16]) -> Result<(), Refusal>
-    requires place { place < length (meaning book.now).rules }
+    requires place { place < length (B.Book.meaning book.now).rules }
     requires heads { length heads.now ≡ remainders }
     requires nexts { place ≤ length nexts.now }
-    requires linked { Linked (remainder_of (meaning book.now).rules) place heads.now nexts.now }
-    ensures { Answered (rule_questions (meaning book.now).events place (take place (meaning book.now).rules) (rule_at (meaning book.now).rules place)) (outcome result) }
+    requires linked { Linked (remainder_of (B.Book.meaning book.now).rules) place heads.now nexts.now }
+    ensures { Answered (rule_questions (B.Book.meaning book.now).events place (take place (B.Book.meaning book.now).rules) (rule_at (B.Book.meaning book.now).rules place)) (outcome result) }
 {
     let rule = known(book, place);
     if rule.number < 1 {
@@ -89,8 +89,8 @@ fn check_rule<B: Book>(book: &B, place: u16, heads: &[u16], nexts: &[u16]) -> Re
 
 // Puts questions 3 to 6 of each rule in order of place.
 fn check_rules<B: Book>(book: &B) -> Result<(), Refusal>
-    requires { length (meaning book.now).rules ≤ max_rules }
-    ensures { Answered (rules_questions (meaning book.now).events [] (meaning book.now).rules) (outcome result) }
+    requires { length (B.Book.meaning book.now).rules ≤ max_rules }
+    ensures { Answered (rules_questions (B.Book.meaning book.now).events [] (B.Book.meaning book.now).rules) (outcome result) }
 {
     let mut heads = [0u16; REMAINDERS as usize];
     let mut nexts = [0u16; MAX_RULES as usize];
@@ -104,7 +104,7 @@ fn check_rules<B: Book>(book: &B) -> Result<(), Refusal>
 
 // Puts questions 1 and 2.
 fn check_counts<B: Book>(book: &B) -> Result<(), Refusal>
-    ensures { Answered (count_questions (meaning book.now)) (outcome result) }
+    ensures { Answered (count_questions (B.Book.meaning book.now)) (outcome result) }
 {
     let events = book.events();
     if events < 1 || events > MAX_EVENTS {
@@ -118,7 +118,7 @@ fn check_counts<B: Book>(book: &B) -> Result<(), Refusal>
 
 // Puts questions 1 to 6 to a book: refused at the first that is answered no, at its place.
 pub fn check<B: Book>(book: &B) -> Result<(), Refusal>
-    ensures { Answered (book_questions (meaning book.now)) (outcome result) }
+    ensures { Answered (book_questions (B.Book.meaning book.now)) (outcome result) }
 {
     check_counts(book)?;
     check_rules(book)

@@ -1,4 +1,7 @@
 // Books of rules: what a book means, the two kinds there are, and the questions that every book is put.
+
+#![tactic(auto)]
+
 ghost use Rattle.std.specs.Prelude.{◌≡◌, length};
 ghost use Rattle.books.specs.Contents.{BookContents, answer_at};
 

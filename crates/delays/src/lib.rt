@@ -1,4 +1,6 @@
 // Kinds of delay: values that can be added, reversed and compared, on which searching and queues are written once.
+#![tactic(auto)]
+
 ghost use Rattle.std.specs.Prelude.{◌≡◌, Bool, true, false, ℕ, ◌+◌, ◌≤◌};
 ghost use Rattle.delays.specs.Exactness.{exact_size};
 

@@ -1,5 +1,7 @@
 // Books and files worked by hand, as tests.
 
+#![tactic(auto)]
+
 #[cfg(test)]
 mod files;
 #[cfg(test)]

@@ -1,4 +1,7 @@
 // A queue that is a binary heap over lent entries: an offer or a taking goes over as many levels as the heap has.
+
+#![tactic(auto)]
+
 ghost use Rattle.std.specs.Prelude.{◌≤◌, length};
 ghost use Rattle.heaps.specs.HeapOrder.{Positioned};
 

@@ -1,5 +1,7 @@
 // Distances from one event, the fewest rules or limits below 0 of shortest chains, the chains themselves, and the events reached.
 
+#![tactic(auto)]
+
 pub mod calls;
 pub mod chains;
 pub mod measuring;

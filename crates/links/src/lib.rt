@@ -1,4 +1,6 @@
 // Places linked by the label that each bears: a list for each label, read from its last place to its first.
+#![tactic(auto)]
+
 ghost use Rattle.std.specs.Prelude.{◌≡◌, ◌+◌, ◌<◌, length, slice_index, slice_set};
 
 // Links the next place, which bears the label: it is the last one now, after the one that was.

@@ -1,5 +1,8 @@
 // Offers and takings of a heap and of a table, at several sizes.
 // Prints a checksum for each size, and whether the two queues answered alike; given the word `times`, also how long they took.
+
+#![tactic(auto)]
+
 use delays::{Count, Millis, Pair};
 use heaps::{Entry, Heap};
 use queues::{Queue, Slot, Table};

@@ -1,4 +1,7 @@
 // Queues of events, each waiting under a key, from which an event with the least key is taken.
+
+#![tactic(auto)]
+
 ghost use Rattle.std.specs.Prelude.{◌≡◌};
 ghost use Rattle.rules.specs.Questions.{Answered, outcome};
 ghost use Rattle.queues.specs.Contents.{Contents, capacity_of, empty, offer_questions, left_by_offer, Least, left_by_take};

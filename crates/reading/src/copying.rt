@@ -6,8 +6,8 @@ use rules::Rule;
 
 // Writes the rules of a book at the start of a list, in order of place; the entries past them stay.
 pub fn read_rules<B: Book>(book: &B, records: &mut [Rule])
-    requires { length (meaning book.now).rules ≤ length records.old }
-    ensures { records.new ≡ (meaning book.now).rules ++ drop (length (meaning book.now).rules) records.old }
+    requires { length (B.Book.meaning book.now).rules ≤ length records.old }
+    ensures { records.new ≡ (B.Book.meaning book.now).rules ++ drop (length (B.Book.meaning book.now).rules) records.old }
 {
     for place in 0..book.count() {
         records[place as usize] = known(book, place);

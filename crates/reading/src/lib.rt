@@ -1,5 +1,7 @@
 // The rules of a book read into a list, and some of them chosen.
 
+#![tactic(auto)]
+
 pub mod choosing;
 pub mod copying;
 

@@ -1,5 +1,7 @@
 // Rules between the events of a fill, and the answers that calls about them give.
 
+#![tactic(auto)]
+
 pub mod faults;
 pub mod records;
 pub mod refusals;

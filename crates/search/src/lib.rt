@@ -1,5 +1,7 @@
 // Searches along rules with weights, from labelled events that wait in a queue, and the chains that they find.
 
+#![tactic(auto)]
+
 pub mod linking;
 pub mod searching;
 pub mod slices;

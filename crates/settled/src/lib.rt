@@ -1,4 +1,7 @@
 // The settled times of a list of rules, or a negative ring of them.
+
+#![tactic(auto)]
+
 ghost use Rattle.std.specs.Prelude.{◌≡◌, ◌≤◌, length, replicate, pos, unsigned_abs};
 ghost use Rattle.rules.specs.declared.records.Rule.{Rule};
 ghost use Rattle.rules.specs.Meets.{◌∈◌, EventsBelow};

@@ -1,5 +1,7 @@
 // Settled times, from prices under which no reduced limit is negative.
 
+#![tactic(auto)]
+
 pub mod times;
 pub mod weighing;
 

@@ -1,4 +1,7 @@
 // Reads a packed book from standard input, and prints its events with their times, or the refusal.
+
+#![tactic(auto)]
+
 ghost use Rattle.std.specs.Prelude.{◌≡◌, IfOk};
 ghost use Rattle.rules.specs.Questions.{Answered, load_outcome};
 ghost use Rattle.books.specs.Opened.{file_of};

@@ -11,11 +11,11 @@ loop-place-init g c =
     let book = g.B.Book.meaning c.args.book.now in
     (refl, refl, linked_none (remainder_of book.rules) remainders _, rules_begin book.events book.rules)
 
-pub returns-in-err-check-rule : goal.returns-in-err-check-rule
-returns-in-err-check-rule g c =
+pub returns-in_err-check_rule : goal.returns-in_err-check_rule
+returns-in_err-check_rule g c =
     let book = g.B.Book.meaning c.args.book.now in
-    let p = err_from_is_err_and c.from-residual.result c.from-residual.ensures.1 in
-    rw (p.1, p.2) (rules_no book.events book.rules c.loop-place.place _ _ (omega arith) c.loop-place.invariant.3 c.in-err-check-rule.ensures)
+    let p = err_from_is_err_and c.from_residual.result c.from_residual.ensures.1 in
+    rw (p.1, p.2) (rules_no book.events book.rules c.loop-place.place _ _ (omega arith) c.loop-place.invariant.3 c.in_err-check_rule.ensures)
 
 pub loop-place-preserved : goal.loop-place-preserved
 loop-place-preserved g c =
@@ -24,7 +24,7 @@ loop-place-preserved g c =
     let fit : c.known-remainder.result.number % remainders < length c.loop-place.heads = omega arith in
     let room : c.loop-place.place < length c.loop-place.nexts = omega arith in
     let linked = linked_more (remainder_of book.rules) c.loop-place.place c.loop-place.heads c.loop-place.nexts _ is fit room c.loop-place.invariant.2 in
-    (omega arith, omega arith, rw (c.link.ensures.heads, c.link.ensures.nexts) linked, rules_more book.events book.rules c.loop-place.place (omega arith) c.loop-place.invariant.3 c.in-ok-check-rule.ensures)
+    (omega arith, omega arith, rw (c.link.ensures.heads, c.link.ensures.nexts) linked, rules_more book.events book.rules c.loop-place.place (omega arith) c.loop-place.invariant.3 c.in_ok-check_rule.ensures)
 
 pub returns : goal.returns
 returns g c =

@@ -5,7 +5,7 @@ use Rattle.books.proofs.files.start_of_name.Goals as goal
 
 pub loop-passed-init : goal.loop-passed-init
 loop-passed-init c =
-    let e : c.start-of-at.result ≡ name_start c.args.bytes.now 0 = omega (arith, c.start-of-at.ensures, c.rule-count.ensures) in
+    let e : c.start_of-at.result ≡ name_start c.args.bytes.now 0 = omega (arith, c.start_of-at.ensures, c.rule_count.ensures) in
     (e, omega arith)
 
 pub loop-passed-preserved : goal.loop-passed-preserved

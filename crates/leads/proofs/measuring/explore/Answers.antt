@@ -11,8 +11,8 @@ use Rattle.leads.proofs.Totals.{none_negative}
 use Rattle.leads.proofs.Best.{exact, told, parents, fits}
 use Rattle.leads.proofs.measuring.explore.Goals as goal
 
-pub search-from-requires : goal.search-from-requires
-search-from-requires g c =
+pub search_from-requires : goal.search_from-requires
+search_from-requires g c =
     let rules : List Rule = c.args.rules.now in
     let prices : List ℤ = c.args.prices.now in
     let a : ℕ = c.args.source in
@@ -42,12 +42,12 @@ returns g c =
     let weights : List Key = c.weigh.new.weights in
     let capacity : ℕ = capacity_of (g.Q.Queue.contents c.args.queue.now) in
     let N : Network Key = keyed rules weights in
-    let s : Labelling Key = labelling c.search-from.new.labels c.search-from.new.parents (g.Q.Queue.contents c.search-from.new.queue) in
-    let found : Searched N (alone (length prices) capacity a key_zero None) s = subst (λ (m : ℕ). Searched N (alone m capacity a key_zero None) s) c.requires.labels c.search-from.ensures.searched in
-    let long : length s.parents ≡ length prices = c.search-from.auto.parents ∙ c.requires.parents in
-    let wide : length s.labels ≡ length prices = c.search-from.auto.labels ∙ c.requires.labels in
+    let s : Labelling Key = labelling c.search_from.new.labels c.search_from.new.parents (g.Q.Queue.contents c.search_from.new.queue) in
+    let found : Searched N (alone (length prices) capacity a key_zero None) s = subst (λ (m : ℕ). Searched N (alone m capacity a key_zero None) s) c.requires.labels c.search_from.ensures.searched in
+    let long : length s.parents ≡ length prices = c.search_from.auto.parents ∙ c.requires.parents in
+    let wide : length s.labels ≡ length prices = c.search_from.auto.labels ∙ c.requires.labels in
     record {
-      lawful = c.search-from.ensures.lawful;
+      lawful = c.search_from.ensures.lawful;
       reached = counts_reached (length prices) capacity a key_zero c.requires.source c.requires.capacity N s found (g.Q.Queue.contents c.args.queue.now) refl;
       told = told c.args.counting rules prices weights capacity a c.requires.priced c.weigh.ensures c.requires.source c.requires.capacity s long wide found;
       parents = parents c.args.counting rules prices weights capacity a c.requires.priced c.weigh.ensures c.requires.source c.requires.capacity s long wide found;

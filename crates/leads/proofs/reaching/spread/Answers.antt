@@ -20,8 +20,8 @@ decides : {P : Type 0} (o : Option Millis) → ((k : Millis) → o ≡ Some k �
 decides None if then = ((λ e. let z : ◌≡◌ {A = ℕ} 0 1 = cc in absurd (omega arith)), (λ p. absurd (clash None (then p).1 refl)))
 decides (Some k) if then = ((λ e. if k refl), (λ p. refl))
 
-pub search-from-requires : goal.search-from-requires
-search-from-requires g c =
+pub search_from-requires : goal.search_from-requires
+search_from-requires g c =
     let rules : List Rule = c.args.rules.now in
     let weights : List Millis = c.args.weights.now in
     let n : ℕ = length c.args.labels.now in
@@ -62,11 +62,11 @@ returns g c =
     let source : a < n = omega (arith, c.requires.source) in
     let room : n ≤ capacity = omega (arith, c.requires.capacity) in
     let N : Network Millis = timed rules c.args.weights.now in
-    let s : Labelling Millis = labelling c.search-from.new.labels c.search-from.new.parents (g.Q.Queue.contents c.search-from.new.queue) in
-    let found : Searched N (alone n capacity a millis_zero None) s = c.search-from.ensures.searched in
+    let s : Labelling Millis = labelling c.search_from.new.labels c.search_from.new.parents (g.Q.Queue.contents c.search_from.new.queue) in
+    let found : Searched N (alone n capacity a millis_zero None) s = c.search_from.ensures.searched in
     record {
-      lawful = c.search-from.ensures.lawful;
+      lawful = c.search_from.ensures.lawful;
       counted = counts_reached n capacity a millis_zero source room N s found (g.Q.Queue.contents c.args.queue.now) refl;
-      reached = λ v. subst (λ (b : Bool). Decides b (Reaches rules a v)) (sym (c.write-flags.ensures v))
+      reached = λ v. subst (λ (b : Bool). Decides b (Reaches rules a v)) (sym (c.write_flags.ensures v))
           (decides (label_of s v) (λ k l. reaches n capacity a millis_zero source room N s found v k l) (λ r. labelled n capacity a millis_zero source room N s found v r));
     }

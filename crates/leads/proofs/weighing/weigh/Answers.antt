@@ -11,8 +11,8 @@ use Rattle.leads.proofs.weighing.weigh.Goals as goal
 pub loop-place-init : goal.loop-place-init
 loop-place-init c = record { is = λ place h. absurd (omega arith); small = λ place h. absurd (omega arith) }
 
-pub weight-of-requires : goal.weight-of-requires
-weight-of-requires c =
+pub weight_of-requires : goal.weight_of-requires
+weight_of-requires c =
     let rules : List Rule = c.args.rules.now in
     let h = events_below _ rules c.requires.events c.loop-place.place (omega arith) in
     let e = c.rule_at.ensures in

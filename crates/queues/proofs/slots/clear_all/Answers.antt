@@ -8,8 +8,8 @@ loop-event-preserved g c =
     let ws = slot_keys c.loop-event.slots in
     let i = c.loop-event.event in
     below_more _ _
-    (λ k h. let ne : k ≢ i = omega arith in ap (λ u. get_or u k None) c.set-key.ensures ∙ get_or-set_other ws i k None None ne ∙ c.loop-event.invariant k h)
-    (ap (λ u. get_or u i None) c.set-key.ensures ∙ get_or-set_same ws i None None (omega (arith, length-map c.loop-event.slots (λ s. s.key), c.loop-event.auto.slots)))
+    (λ k h. let ne : k ≢ i = omega arith in ap (λ u. get_or u k None) c.set_key.ensures ∙ get_or-set_other ws i k None None ne ∙ c.loop-event.invariant k h)
+    (ap (λ u. get_or u i None) c.set_key.ensures ∙ get_or-set_same ws i None None (omega (arith, length-map c.loop-event.slots (λ s. s.key), c.loop-event.auto.slots)))
 
 pub returns : goal.returns
 returns g c =

@@ -4,7 +4,7 @@ use Rattle.queues.specs.SlotKeys.{slot_keys}
 use Rattle.queues.proofs.Order.{order}
 use Rattle.queues.proofs.Scans.{LeastBelow, scan_none, scan_some, scan_all}
 use Rattle.queues.proofs.slots.least.Goals as goal
-use Rattle.queues.proofs.slots.least.Goals.{in-Some, in-default}
+use Rattle.queues.proofs.slots.least.Goals.{in-Some, in_default}
 
 pub loop-event-preserved : goal.loop-event-preserved
 loop-event-preserved g c =
@@ -14,8 +14,8 @@ loop-event-preserved g c =
     let m = g.met.K.Delay in
     let P : Option (ℕ × g.row.K.Denot) → Type 0 = λ b. LeastBelow less ws (i + 1) b in
     elim c.match-slot.branch [
-      | in-Some w ↦ subst P (sym (w.best-is ∙ w.better-best.ensures)) (scan_some less (order less m.irreflexive m.transitive m.total) ws i c.loop-event.best w.in-Some.key c.loop-event.invariant (sym c.key-at-slot.ensures ∙ w.in-Some.is))
-      | in-default w ↦ subst P (sym w.best-is) (scan_none less ws i c.loop-event.best c.loop-event.invariant (sym c.key-at-slot.ensures ∙ w.in-default.is))
+      | in-Some w ↦ subst P (sym (w.best-is ∙ w.better-best.ensures)) (scan_some less (order less m.irreflexive m.transitive m.total) ws i c.loop-event.best w.in-Some.key c.loop-event.invariant (sym c.key_at-slot.ensures ∙ w.in-Some.is))
+      | in_default w ↦ subst P (sym w.best-is) (scan_none less ws i c.loop-event.best c.loop-event.invariant (sym c.key_at-slot.ensures ∙ w.in_default.is))
     ]
 
 pub returns : goal.returns

@@ -13,8 +13,8 @@ loop-place-preserved c =
     let flags = c.args.flags.now in
     let old = c.args.chosen.now in
     elim c.if-flags-place.branch [
-      | then-flags-place w ↦ rw (w.chosen-is, w.count_is) (omega (arith, i.0), choosing_more rules flags old _ _ _ _ c.loop-place-test.true c.requires.flags c.requires.room w.if-flags-place.true refl i.0 i.1)
-      | else-flags-place w ↦ rw (w.chosen-is, w.count_is) (omega (arith, i.0), choosing_past rules flags old _ _ _ c.loop-place-test.true c.requires.flags w.if-flags-place.false i.1)
+      | then-flags-place w ↦ rw (w.chosen-is, w.count-is) (omega (arith, i.0), choosing_more rules flags old _ _ _ _ c.loop-place-test.true c.requires.flags c.requires.room w.if-flags-place.true refl i.0 i.1)
+      | else-flags-place w ↦ rw (w.chosen-is, w.count-is) (omega (arith, i.0), choosing_past rules flags old _ _ _ c.loop-place-test.true c.requires.flags w.if-flags-place.false i.1)
     ]
 
 pub returns : goal.returns

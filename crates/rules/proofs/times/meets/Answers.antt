@@ -12,8 +12,8 @@ default = record { number = 0; first = 0; second = 0; limit = pos 0 }
 pub loop-rule-init : goal.loop-rule-init
 loop-rule-init c = λ r m. absurd (Memᴰ.not-nil m)
 
-pub returns-then-lead-of-rule : goal.returns-then-lead-of-rule
-returns-then-lead-of-rule c = (
+pub returns-then-lead_of-rule : goal.returns-then-lead_of-rule
+returns-then-lead_of-rule c = (
   λ e. (let z : ◌≡◌ {A = ℕ} 0 1 = cc in absurd (omega arith)),
   λ m. absurd (let h = m _ (get_or_in c.args.rules.now c.loop-rule.rule-index default c.loop-rule-test.true) in omega (arith, ints)),
 )

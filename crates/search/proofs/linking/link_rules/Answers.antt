@@ -11,13 +11,13 @@ loop-place-init c = subst (λ (heads : List ℕ). Linked (first_of c.args.rules.
 pub link-requires : goal.link-requires
 link-requires c =
     let h = events_below _ c.args.rules.now c.requires.events c.loop-place.place (omega arith) in
-    record { label = omega (arith, h.0, c.first-at.ensures, c.loop-place.auto.heads, c.fill.auto.items); place = omega arith; held = omega arith }
+    record { label = omega (arith, h.0, c.first_at.ensures, c.loop-place.auto.heads, c.fill.auto.items); place = omega arith; held = omega arith }
 
 pub loop-place-preserved : goal.loop-place-preserved
 loop-place-preserved c =
     let rules = c.args.rules.now in
     let place = c.loop-place.place in
-    let is : first_of rules place ≡ c.first-at.result = sym c.first-at.ensures in
+    let is : first_of rules place ≡ c.first_at.result = sym c.first_at.ensures in
     let h = events_below _ rules c.requires.events place (omega arith) in
-    let fit : c.first-at.result < length c.loop-place.heads = omega (arith, h.0, c.loop-place.auto.heads, c.fill.auto.items) in
+    let fit : c.first_at.result < length c.loop-place.heads = omega (arith, h.0, c.loop-place.auto.heads, c.fill.auto.items) in
     rw (c.link.ensures.heads, c.link.ensures.nexts) (linked_more (first_of rules) place c.loop-place.heads c.loop-place.nexts _ is fit (omega arith) c.loop-place.invariant)

@@ -22,8 +22,8 @@ reach-reached-requires g c =
     let place = c.loop-held.held - 1 in
     let fit : place < length c.args.rules.now = let h = c.loop-held.invariant.0 in omega arith in
     record {
-      exact = subst (λ (w : g.row.K.Denot). g.K.Delay.size c.args.key + g.K.Delay.size w ≤ exact_size) (sym c.weight-at.ensures) (c.requires.adds place fit);
-      rising = subst (λ (w : g.row.K.Denot). g.K.Delay.less w g.K.Delay.zero ≡ false) (sym c.weight-at.ensures) (c.requires.rising place fit);
+      exact = subst (λ (w : g.row.K.Denot). g.K.Delay.size c.args.key + g.K.Delay.size w ≤ exact_size) (sym c.weight_at.ensures) (c.requires.adds place fit);
+      rising = subst (λ (w : g.row.K.Denot). g.K.Delay.less w g.K.Delay.zero ≡ false) (sym c.weight_at.ensures) (c.requires.rising place fit);
     }
 
 pub improve-requires : goal.improve-requires
@@ -31,7 +31,7 @@ improve-requires g c =
     let place = c.loop-held.held - 1 in
     let fit : place < length c.args.rules.now = let h = c.loop-held.invariant.0 in omega arith in
     let below = events_below _ c.args.rules.now c.requires.fitting.events place fit in
-    let is = c.second-at.ensures in
+    let is = c.second_at.ensures in
     record {
       labels = omega (arith, below.1, is, c.loop-held.auto.labels);
       parents = omega (arith, below.1, is, c.loop-held.auto.parents, c.requires.fitting.parents);
@@ -47,8 +47,8 @@ loop-held-preserved g c =
     let within : held ≤ length rules = inv.0 in
     let fit : held - 1 < length rules = omega arith in
     let from : first_of rules (held - 1) ≡ c.args.event = inv.1 some in
-    let next : ℕ = c.next-of-held.result in
-    let before : Last (first_of rules) (held - 1) (first_of rules (held - 1)) next = subst (λ (h : ℕ). Last (first_of rules) (held - 1) (first_of rules (held - 1)) h) (sym c.next-of-held.ensures) (c.requires.linked.before (held - 1) fit) in
+    let next : ℕ = c.next_of-held.result in
+    let before : Last (first_of rules) (held - 1) (first_of rules (held - 1)) next = subst (λ (h : ℕ). Last (first_of rules) (held - 1) (first_of rules (held - 1)) h) (sym c.next_of-held.ensures) (c.requires.linked.before (held - 1) fit) in
     let last : Last (first_of rules) (held - 1) c.args.event next = subst (λ (e : ℕ). Last (first_of rules) (held - 1) e next) from before in
     let long : next ≤ held - 1 = last.within in
     let below : second_of rules (held - 1) < length c.args.labels.now = (events_below _ rules c.requires.fitting.events (held - 1) fit).1 in
@@ -62,7 +62,7 @@ loop-held-preserved g c =
       (λ l. c.improve.ensures.lawful (inv.3 l)),
       λ start taken go. relaxed_as N laws start c.args.event c.args.key held next taken s some within from last (c.requires.rising (held - 1) fit)
           (omega (arith, c.loop-held.auto.labels)) (omega (arith, c.loop-held.auto.parents, c.requires.fitting.parents)) (omega (arith, inv.2, c.requires.fitting.capacity)) (inv.4 start taken go)
-          c.second-at.result c.weight-at.result c.reach-reached.result _ c.second-at.ensures c.weight-at.ensures c.reach-reached.ensures.sum c.improve.ensures.done,
+          c.second_at.result c.weight_at.result c.reach-reached.result _ c.second_at.ensures c.weight_at.ensures c.reach-reached.ensures.sum c.improve.ensures.done,
     )
 
 pub returns : goal.returns

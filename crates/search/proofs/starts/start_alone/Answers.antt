@@ -9,8 +9,8 @@ use Rattle.search.proofs.Keys.{Laws}
 use Rattle.search.proofs.Begins.{all_same, ready_alone}
 use Rattle.search.proofs.starts.start_alone.Goals as goal
 
-pub offer-label-requires : goal.offer-label-requires
-offer-label-requires g c =
+pub offer_label-requires : goal.offer_label-requires
+offer_label-requires g c =
     let n : ℕ = capacity_of (g.Q.Queue.contents c.args.queue.now) in
     let clear = c.clear.ensures.left in
     record {
@@ -26,15 +26,15 @@ returns g c =
     let key : g.row.K.Denot = c.args.key in
     let q : Contents g.row.K.Denot = g.Q.Queue.contents c.clear.new.self in
     let clear : q ≡ empty n = c.clear.ensures.left in
-    let queue = c.offer-label.ensures.left ∙ ap (λ p. holds (set p.waiting event (Some key)) p.count) clear in
+    let queue = c.offer_label.ensures.left ∙ ap (λ p. holds (set p.waiting event (Some key)) p.count) clear in
     let events : ℕ = length c.args.labels.now in
     let started =
-    ap (λ ls. labelling ls c.fill.new.items (g.Q.Queue.contents c.offer-label.new.queue)) c.label-alone.ensures
-    ∙ ap (λ ps. labelling (set (replicate events c.args.label) event (Some key)) ps (g.Q.Queue.contents c.offer-label.new.queue)) (c.fill.ensures ∙ ap (λ m. replicate m 0) c.requires.parents)
+    ap (λ ls. labelling ls c.fill.new.items (g.Q.Queue.contents c.offer_label.new.queue)) c.label_alone.ensures
+    ∙ ap (λ ps. labelling (set (replicate events c.args.label) event (Some key)) ps (g.Q.Queue.contents c.offer_label.new.queue)) (c.fill.ensures ∙ ap (λ m. replicate m 0) c.requires.parents)
     ∙ ap (labelling (set (replicate events c.args.label) event (Some key)) (replicate events 0)) queue in
     let met = g.met.K.Delay in
     record {
-      lawful = c.offer-label.ensures.lawful c.clear.ensures.sound;
+      lawful = c.offer_label.ensures.lawful c.clear.ensures.sound;
       started = started;
       ready = λ small rules weights below rising.
           let N : Network g.row.K.Denot = network g.K.Delay rules weights in

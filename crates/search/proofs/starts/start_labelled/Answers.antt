@@ -15,8 +15,8 @@ loop-event-init g c =
     let e : n ≡ m - 0 = omega arith in
     (c.clear.ensures.sound, clear ∙ ap (λ k. holds (replicate k None) 0) e)
 
-pub offer-label-requires : goal.offer-label-requires
-offer-label-requires g c =
+pub offer_label-requires : goal.offer_label-requires
+offer_label-requires g c =
     let labels = c.args.labels.now in
     let i : ℕ = c.loop-event.event in
     let m : ℕ = capacity_of (g.Q.Queue.contents c.clear.new.self) in
@@ -37,8 +37,8 @@ loop-event-preserved g c =
     let same : m ≡ n = ap capacity_of c.clear.ensures.left ∙ length-replicate {A = Option g.row.K.Denot} n None in
     let label = c.index-labels-event.result in
     let is = c.loop-event.invariant.1 in (
-      c.offer-label.ensures.lawful c.loop-event.invariant.0,
-      c.offer-label.ensures.left ∙ ap (λ q. holds (set q.waiting i label) q.count) is ∙ ap (λ ws. holds ws 0) (first_more labels m i label (omega arith) (omega (arith, c.requires.capacity)) (get_or_read labels i _ (omega arith) c.index-labels-event.is None)),
+      c.offer_label.ensures.lawful c.loop-event.invariant.0,
+      c.offer_label.ensures.left ∙ ap (λ q. holds (set q.waiting i label) q.count) is ∙ ap (λ ws. holds ws 0) (first_more labels m i label (omega arith) (omega (arith, c.requires.capacity)) (get_or_read labels i _ (omega arith) c.index-labels-event.is None)),
     )
 
 pub returns : goal.returns

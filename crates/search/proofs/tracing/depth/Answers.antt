@@ -7,14 +7,14 @@ loop-at-init c =
     let t = chain_to c.args.rules.now c.args.parents.now c.args.event c.requires.event c.requires.forest in
     (t.0, length t.0, omega arith, back_begin c.args.rules.now c.args.parents.now c.args.event t.0 c.requires.event t.1)
 
-pub first-at-at-requires : goal.first-at-at-requires
-first-at-at-requires c =
+pub first_at-at-requires : goal.first_at-at-requires
+first_at-at-requires c =
     let inv = c.loop-at.invariant in
     let some = back_some c.args.rules.now c.args.parents.now c.args.event inv.0 inv.1 c.loop-at.at c.loop-at-test.true inv.3 in
     (back_more c.args.rules.now c.args.parents.now c.args.event inv.0 inv.1 c.loop-at.at c.requires.events some inv.3).1
 
-pub overflow-add-count : goal.overflow-add-count
-overflow-add-count c =
+pub overflow_add-count : goal.overflow_add-count
+overflow_add-count c =
     let inv = c.loop-at.invariant in
     let few = chain_few c.args.rules.now c.args.parents.now c.requires.events c.args.event inv.0 inv.3.traced in
     omega (arith, inv.2)
@@ -26,7 +26,7 @@ loop-at-preserved c =
     let inv = c.loop-at.invariant in
     let some = back_some rules parents c.args.event inv.0 inv.1 c.loop-at.at c.loop-at-test.true inv.3 in
     let next = back_more rules parents c.args.event inv.0 inv.1 c.loop-at.at c.requires.events some inv.3 in
-    (inv.0, inv.1 - 1, omega (arith, inv.2), subst (λ (a : ℕ). Back rules parents c.args.event inv.0 (inv.1 - 1) a) (sym c.first-at-at.ensures) next.2)
+    (inv.0, inv.1 - 1, omega (arith, inv.2), subst (λ (a : ℕ). Back rules parents c.args.event inv.0 (inv.1 - 1) a) (sym c.first_at-at.ensures) next.2)
 
 pub loop-at-smaller : goal.loop-at-smaller
 loop-at-smaller c =

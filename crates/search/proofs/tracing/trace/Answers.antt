@@ -14,19 +14,19 @@ loop-left-init c =
       write_begin rules c.args.numbers.now t.0 ∙ ap (half_written rules c.args.numbers.now t.0) t.2,
     )
 
-pub overflow-sub-place : goal.overflow-sub-place
-overflow-sub-place c =
+pub overflow_sub-place : goal.overflow_sub-place
+overflow_sub-place c =
     let inv = c.loop-left.invariant in
     let next = back_more c.args.rules.now c.args.parents.now c.args.event inv.0 c.loop-left.left c.loop-left.at c.requires.events c.loop-left-test.true inv.2 in
     omega (arith, next.0)
 
-pub number-at-requires : goal.number-at-requires
-number-at-requires c =
+pub number_at-requires : goal.number_at-requires
+number_at-requires c =
     let inv = c.loop-left.invariant in
     (back_more c.args.rules.now c.args.parents.now c.args.event inv.0 c.loop-left.left c.loop-left.at c.requires.events c.loop-left-test.true inv.2).1
 
-pub first-at-at-requires : goal.first-at-at-requires
-first-at-at-requires c =
+pub first_at-at-requires : goal.first_at-at-requires
+first_at-at-requires c =
     let inv = c.loop-left.invariant in
     (back_more c.args.rules.now c.args.parents.now c.args.event inv.0 c.loop-left.left c.loop-left.at c.requires.events c.loop-left-test.true inv.2).1
 
@@ -39,13 +39,13 @@ loop-left-preserved c =
     let left : ℕ = c.loop-left.left in
     let next = back_more rules parents c.args.event inv.0 left c.loop-left.at c.requires.events c.loop-left-test.true inv.2 in
     let own : get_or parents c.loop-left.at 0 - 1 ≡ get_or inv.0 (left - 1) 0 = omega (arith, next.0) in
-    let number : c.number-at.result ≡ (rule_at rules (get_or inv.0 (left - 1) 0)).number = c.number-at.ensures ∙ ap (λ p. (rule_at rules p).number) own in
+    let number : c.number_at.result ≡ (rule_at rules (get_or inv.0 (left - 1) 0)).number = c.number_at.ensures ∙ ap (λ p. (rule_at rules p).number) own in
     let same : left ≡ left - 1 + 1 = omega arith in
     let within = inv.2.within in (
       inv.0,
       inv.1,
-      subst (λ (a : ℕ). Back rules parents c.args.event inv.0 (left - 1) a) (sym c.first-at-at.ensures) next.2,
-      ap (λ ns. set ns (left - 1) c.number-at.result) (inv.3 ∙ ap (half_written rules entry inv.0) same) ∙ ap (set (half_written rules entry inv.0 (left - 1 + 1)) (left - 1)) number
+      subst (λ (a : ℕ). Back rules parents c.args.event inv.0 (left - 1) a) (sym c.first_at-at.ensures) next.2,
+      ap (λ ns. set ns (left - 1) c.number_at.result) (inv.3 ∙ ap (half_written rules entry inv.0) same) ∙ ap (set (half_written rules entry inv.0 (left - 1 + 1)) (left - 1)) number
           ∙ write_more rules entry inv.0 (left - 1) (omega arith) (omega (arith, inv.1, c.depth-count.ensures.few, c.requires.room)),
     )
 

@@ -3,8 +3,8 @@ use Rattle.std.proofs.lemmas.Int.{ints}
 use Rattle.settling.specs.Weights.{raised}
 use Rattle.settling.proofs.weighing.raise.Goals as goal
 
-pub overflow-add-result : goal.overflow-add-result
-overflow-add-result c = let l = c.requires.label c.in-Some.key c.in-Some.is in omega (arith, ints)
+pub overflow_add-result : goal.overflow_add-result
+overflow_add-result c = let l = c.requires.label c.in-Some.key c.in-Some.is in omega (arith, ints)
 
 pub returns-in-Some : goal.returns-in-Some
 returns-in-Some c =

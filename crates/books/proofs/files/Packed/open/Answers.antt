@@ -5,28 +5,28 @@ use Rattle.books.proofs.Names.{names_begin, head_no, names_more, names_no, end_n
 use Rattle.books.proofs.Spells.{spelled}
 use Rattle.books.proofs.files.Packed.open.Goals as goal
 
-pub returns-in-err-check-head : goal.returns-in-err-check-head
-returns-in-err-check-head c =
-    let p = err_from_is_err_and c.from-residual.result c.from-residual.ensures.1 in
-    rw (p.1, p.2) (record { answer = head_no c.args.bytes.now _ _ c.in-err-check-head.ensures; file = tt; names = tt })
+pub returns-in_err-check_head : goal.returns-in_err-check_head
+returns-in_err-check_head c =
+    let p = err_from_is_err_and c.from_residual.result c.from_residual.ensures.1 in
+    rw (p.1, p.2) (record { answer = head_no c.args.bytes.now _ _ c.in_err-check_head.ensures; file = tt; names = tt })
 
 pub loop-event-init : goal.loop-event-init
 loop-event-init c =
     let file = c.args.bytes.now in
-    let head = c.in-ok-check-head.ensures in
+    let head = c.in_ok-check_head.ensures in
     let fits : rule_start (u16_at file count_start) ≤ length file = head.1.1.1.1.1.0 in
-    rw (c.start-of-at.ensures, c.rule-count.ensures) (names_begin file head, fits)
+    rw (c.start_of-at.ensures, c.rule_count.ensures) (names_begin file head, fits)
 
-pub returns-in-err-at : goal.returns-in-err-at
-returns-in-err-at c =
+pub returns-in_err-at : goal.returns-in_err-at
+returns-in_err-at c =
     let file = c.args.bytes.now in
-    let p = err_from_is_err_and c.from-residual-in-err-at.result c.from-residual-in-err-at.ensures.1 in
-    rw (p.1, p.2) (record { answer = names_no file c.loop-event.event c.loop-event.at _ _ (omega arith) c.in-err-at.ensures.answer c.loop-event.invariant.0; file = tt; names = tt })
+    let p = err_from_is_err_and c.from_residual-in_err-at.result c.from_residual-in_err-at.ensures.1 in
+    rw (p.1, p.2) (record { answer = names_no file c.loop-event.event c.loop-event.at _ _ (omega arith) c.in_err-at.ensures.answer c.loop-event.invariant.0; file = tt; names = tt })
 
 pub loop-event-preserved : goal.loop-event-preserved
 loop-event-preserved c =
-    let told = c.in-ok-at.ensures in
-    (names_more c.args.bytes.now c.loop-event.event c.loop-event.at c.in-ok-at.at told.next.0 told.answer c.loop-event.invariant.0, told.next.1)
+    let told = c.in_ok-at.ensures in
+    (names_more c.args.bytes.now c.loop-event.event c.loop-event.at c.in_ok-at.at told.next.0 told.answer c.loop-event.invariant.0, told.next.1)
 
 pub returns-then-at-bytes : goal.returns-then-at-bytes
 returns-then-at-bytes c = record { answer = end_no c.args.bytes.now c.loop-event.event c.loop-event.at (omega arith) c.if-at-bytes.true c.loop-event.invariant.0; file = tt; names = tt }

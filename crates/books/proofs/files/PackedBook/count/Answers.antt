@@ -3,4 +3,4 @@ use Rattle.books.proofs.Parts.{count_is}
 use Rattle.books.proofs.files.PackedBook.count.Goals as goal
 
 pub returns : goal.returns
-returns c = c.rule-count.ensures ∙ sym (count_is c.args.self.now.bytes.now)
+returns c = c.rule_count.ensures ∙ sym (count_is c.args.self.now.bytes.now)

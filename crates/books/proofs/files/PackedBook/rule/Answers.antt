@@ -10,4 +10,4 @@ returns-then-place-count c =
     let bytes = c.args.self.now.bytes.now in
     let low : c.args.place < length (book_of bytes).rules = omega (arith, c.count.ensures) in
     let few : c.args.place < u16_at bytes count_start = omega (arith, count_is bytes) in
-    ap Ok (c.read-rule.ensures ∙ ap (λ (at : ℕ). rule_from bytes at) c.start-of.ensures ∙ sym (rule_is bytes c.args.place few)) ∙ sym (answer_in _ _ low)
+    ap Ok (c.read_rule.ensures ∙ ap (λ (at : ℕ). rule_from bytes at) c.start_of.ensures ∙ sym (rule_is bytes c.args.place few)) ∙ sym (answer_in _ _ low)
