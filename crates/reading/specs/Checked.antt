@@ -1,5 +1,5 @@
 -- What questions 1 to 6 leave of a book. Assumes nothing.
-use Rattle.std.specs.Prelude.{ℕ, ◌≤◌, length, ◌≤ℤ◌}
+use Rattle.std.specs.Prelude.{◌≤◌, length, ◌≤ℤ◌}
 use Rattle.rules.specs.declared.records.Rule.{Rule}
 use Rattle.rules.specs.Bounds.{max_events, max_rules, min_limit, max_limit}
 use Rattle.rules.specs.Meets.{◌∈◌, EventsBelow}
