@@ -20,7 +20,7 @@ fn least(heap: Global, waiting: &[Option<i64>]) -> Result<Option<i64>, AllocErro
             keys.push(*key)?;
         }
     }
-    keys.sort();
+    keys.sort()?;
     Ok(keys.first().copied())
 }
 
