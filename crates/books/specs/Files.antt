@@ -1,6 +1,6 @@
 -- The book and the names that a packed file holds, and the questions that the file is put, 21 to 29. Assumes nothing.
 use Rattle.std.specs.Prelude.{◌≡◌, ℕ, zero, suc, ◌+◌, ◌<◌, ◌≤◌, List, [], ◌∷◌, ◌++◌, map, length, take}
-use Rattle.std.specs.List.{AllByRecursion as All, range_with_len}
+use Rattle.std.specs.List.{AllByRecursion, range_with_len}
 use Rattle.rules.specs.Bounds.{max_events, max_rules}
 use Rattle.rules.specs.Questions.{Question, ask}
 use Rattle.rules.specs.declared.records.Rule.{Rule}
@@ -25,7 +25,7 @@ Letter byte = (min_letter ≤ byte) × (byte ≤ max_letter)
 
 -- what every name of a file that passes is
 abbrev pub Spelled : List ℕ → Type 0
-Spelled name = (length name ≤ max_name) × All Letter name
+Spelled name = (length name ≤ max_name) × AllByRecursion Letter name
 
 -- the name whose length byte is at that place is there whole, with a lawful length
 abbrev pub HasName : List ℕ → ℕ → Type 0

@@ -3,7 +3,7 @@ use Rattle.std.proofs.Common.{◌≡◌, ℕ, zero, suc, ◌<◌, ◌≤◌, ◌
 use mathlib.Core.List.Memᴰ
 use native.Mathlib.Decide.{ℕ_discrete}
 use Rattle.std.proofs.lemmas.Int.{ints, by_lt_z}
-use Rattle.std.specs.List.{AllByRecursion as All}
+use Rattle.std.specs.List.{AllByRecursion}
 use Rattle.rules.specs.declared.records.Rule.{Rule}
 use Rattle.rules.specs.Meets.{◌∈◌}
 
@@ -77,7 +77,7 @@ module _ {A : Type 0} (m : A → ℤ) where
 
 -- every rule of the path stands among the rules
 abbrev pub Over : List Rule → List Rule → Type 0
-Over rules path = All (λ r. r ∈ rules) path
+Over rules path = AllByRecursion (λ r. r ∈ rules) path
 
 -- of the paths of at most k rules that have P
 pub least_path : (rules : List Rule) (k : ℕ) (P : List Rule → Type 0) → ((path : List Rule) → Over rules path → Dec (P path)) → (m : List Rule → ℤ) → Least (λ path. Over rules path × (length path ≤ k) × P path) m

@@ -2,7 +2,7 @@
 use Rattle.std.proofs.Common.{◌≡◌, ℕ, zero, suc, ◌+◌, ◌<◌, ◌≤◌, ◌⊎◌, List, [], ◌∷◌, ◌++◌, length, ℤ, pos, negsuc, ◌+ℤ◌, ◌≤ℤ◌, sym, refl, ap, ◌∙◌, inl, inr, ⊎_elim, arith, length-append}
 use mathlib.Core.List.Memᴰ
 use lib.Signed.{le_z_yes, lt_z_yes}
-use Rattle.std.specs.List.{AllByRecursion as All}
+use Rattle.std.specs.List.{AllByRecursion}
 use Rattle.std.proofs.lemmas.Int.{ints}
 use Rattle.rules.specs.declared.records.Rule.{Rule}
 use Rattle.rules.specs.Meets.{◌∈◌, Times, at, lead, Meets}
@@ -36,10 +36,10 @@ each_below P (suc n) (p, ps) zero h = p
 each_below P (suc n) (p, ps) (suc v) h = each_below (λ v. P (suc v)) n ps v (omega arith)
 
 -- times given as a list are settled, if each is the sum of a chain
-settled_list : (n : ℕ) (rules : List Rule) (times : List ℤ) → All (Met (at times)) rules → Each (λ v. at times v ≤ℤ pos 0) n → Each (Attained n (λ v. pos 0) rules (at times)) n → Settled n rules (at times)
+settled_list : (n : ℕ) (rules : List Rule) (times : List ℤ) → AllByRecursion (Met (at times)) rules → Each (λ v. at times v ≤ℤ pos 0) n → Each (Attained n (λ v. pos 0) rules (at times)) n → Settled n rules (at times)
 settled_list n rules times met early attained = latest_by_chains n (λ v. pos 0) rules (at times) (of_all (Met (at times)) rules met) (each_below _ n early) (each_below _ n attained)
 
-absent : (a : ℕ) (xs : List ℕ) → All (λ v. ¬ (a ≡ v)) xs → ¬ (a ∈ xs)
+absent : (a : ℕ) (xs : List ℕ) → AllByRecursion (λ v. ¬ (a ≡ v)) xs → ¬ (a ∈ xs)
 absent a xs other m = of_all (λ v. ¬ (a ≡ v)) xs other a m refl
 
 -- where no rule starts, only the empty chain does
@@ -299,7 +299,7 @@ three_events = record {
     late : Times
     late = at (pos 0 ∷ pos 60_000 ∷ pos 60_900 ∷ [])
 
-    met : All (Met t) card_lift_valve
+    met : AllByRecursion (Met t) card_lift_valve
     met = (le_z_yes tt, (le_z_yes tt, (le_z_yes tt, (le_z_yes tt, tt))))
 
     in_11 : rule 11 1 0 (minus 200) ∈ card_lift_valve
