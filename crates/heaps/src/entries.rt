@@ -96,8 +96,8 @@ fn is_less<K: Delay>(entries: &[Entry<K>], i: usize, j: usize) -> bool
 }
 
 fn exchange<K: Delay>(entries: &mut [Entry<K>], i: u16, j: u16)
-    requires i_in_bounds { (i < length entries.old) × (j < length entries.old) }
-    requires i_in_bounds_2 { (slice_index (events entries.old) i < length entries.old) × (slice_index (events entries.old) j < length entries.old) }
+    requires within { (i < length entries.old) × (j < length entries.old) }
+    requires known { (slice_index (events entries.old) i < length entries.old) × (slice_index (events entries.old) j < length entries.old) }
     ensures keyed { (d : K) → keys entries.new ≡ slice_set (slice_set (keys entries.old) i (slice_index_or (keys entries.old) j d)) j (slice_index_or (keys entries.old) i d) }
     ensures evented { events entries.new ≡ slice_set (slice_set (events entries.old) i (slice_index (events entries.old) j)) j (slice_index (events entries.old) i) }
     ensures placed { places entries.new ≡ slice_set (slice_set (places entries.old) (slice_index (events entries.old) j) i) (slice_index (events entries.old) i) j }
