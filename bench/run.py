@@ -1,10 +1,10 @@
 """Settles 23 full books by a plain C program and by this repository's searches, and prints for each the fastest of several runs of both, and their ratio.
-Run it from the repository's root after `rt check`, which leaves target/bin/settle_bench."""
+Run it from the repository's root after `rt run` in crates/settle_bench, which leaves out/settle_bench there."""
 import os
 import subprocess
 import tempfile
 
-OURS = os.path.join("target", "bin", "settle_bench")
+OURS = os.path.join("crates", "settle_bench", "out", "settle_bench")
 
 
 def timed(command, book):
