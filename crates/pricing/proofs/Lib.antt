@@ -2,4 +2,4 @@ pub mod Explores
 pub mod Mends
 pub mod Lowers
 pub mod Steps
-pub mod Sizes
+pub mod Loosened

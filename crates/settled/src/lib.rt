@@ -65,6 +65,7 @@ pub fn settle_rules<Q: Queue<Millis>>(
     let mut start = [0i64; MAX_NODES];
     let all = &mut start[..];
     let part = &mut all[0..times.len()];
+    // All are 0 already; the call says so of the part.
     part.fill(0);
     settle_from(rules, part, times, queue, ring)
 }

@@ -5,7 +5,7 @@ use Rattle.rules.specs.Meets.{at}
 use Rattle.rules.specs.Settled.{Settled}
 use Rattle.rules.specs.Prices.{loosened}
 use Rattle.pricing.specs.Repairs.{Shown}
-use Rattle.pricing.proofs.Sizes.{loosened_none}
+use Rattle.pricing.proofs.Loosened.{loosened_none}
 use Rattle.settled.proofs.settle_from.Goals as goal
 
 pub returns-in-None-clause-settles : goal.returns-in-None-clause-settles

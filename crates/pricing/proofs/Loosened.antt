@@ -1,4 +1,4 @@
--- Sizes of the latest times. Assumes nothing.
+-- Rules loosened by nothing. Assumes nothing.
 use Rattle.std.proofs.Common.{◌≡◌, List, [], ◌∷◌, ℤ, pos, refl, ap, ◌∙◌, arith}
 use Rattle.std.proofs.lemmas.Int.{ints}
 use Rattle.rules.specs.declared.records.Rule.{Rule}
