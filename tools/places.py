@@ -47,12 +47,16 @@ def functions(path):
         if not start:
             at += 1
             continue
-        indent, end = start.group(1), at
-        while end < len(lines) and not (lines[end].endswith(";") or lines[end].endswith("{}") or lines[end] == indent + "}"):
+        indent, end, opens = start.group(1), at, None
+        while end < len(lines):
+            text = lines[end]
+            if opens is None and (text == indent + "{" or (text.endswith(" {") and not text.lstrip().startswith(("requires", "ensures")))):
+                opens = end
+            if text == indent + "}" or text.endswith("{}") or (opens is None and text.endswith(";")):
+                break
             end += 1
-        text = lines[at:end + 1]
-        opens = next((i for i, t in enumerate(text) if t == indent + "{" or (t.endswith(" {") and not t.lstrip().startswith(("requires", "ensures")))), len(text) - 1)
-        found.append(Function(path.relative_to(TOP), at + 1, "\n".join(text[:opens + 1]), "\n".join(text[opens + 1:-1])))
+        opens = end if opens is None else opens
+        found.append(Function(path.relative_to(TOP), at + 1, "\n".join(lines[at:opens + 1]), "\n".join(lines[opens + 1:end])))
         at = end + 1
     return found
 

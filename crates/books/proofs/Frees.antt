@@ -1,22 +1,34 @@
 -- A number sought among the rules at the first places, by links of places whose numbers have one remainder. Assumes nothing.
-use Rattle.std.proofs.Common.{◌≡◌, ℕ, ◌-◌, ◌%◌, ◌<◌, ◌≤◌, List, length, take, arith, length-take}
-use Rattle.std.proofs.lemmas.List.{get_or-take}
+use Rattle.std.proofs.Common.{◌≡◌, ℕ, ◌%◌, ◌<◌, List, Option, Some, sym, ap, ◌∙◌, subst, ⊎_elim, arith}
+use Rattle.std.specs.Option.{ForSome}
+use Rattle.std.proofs.lemmas.Bool.{cases_order}
+use Rattle.std.proofs.lemmas.Option.{same_Some}
 use Rattle.rules.specs.declared.records.Rule.{Rule}
-use Rattle.rules.specs.Places.{rule_at, no_rule}
-use Rattle.books.specs.Checks.{Free}
+use Rattle.rules.specs.Places.{rule_at}
+use Rattle.links.specs.Links.{After, Last}
 use Rattle.books.specs.Numbering.{remainders, remainder_of}
 
--- of the places below count, those from held on do not bear the number; the place before held may
-pub record Sought (rules : List Rule) (number count held : ℕ) : Type 0 where
-  pub within : held ≤ count
-  pub alike : 0 < held → remainder_of rules (held - 1) ≡ number % remainders
-  pub none : (place : ℕ) → held ≤ place → place < count → ¬ ((rule_at rules place).number ≡ number)
+-- of the places below count, those after the held one do not bear the number; the held one may
+pub record Sought (rules : List Rule) (number count : ℕ) (held : Option ℕ) : Type 0 where
+  pub alike : ForSome held (λ place. (place < count) × (remainder_of rules place ≡ number % remainders))
+  pub none : (place : ℕ) → place < count → After held place → ¬ ((rule_at rules place).number ≡ number)
 
 module _ (rules : List Rule) (number count : ℕ) where
-  pub sought_all : count ≤ length rules → Sought rules number count 0 → Free number (take count rules)
-  sought_all few sought place h =
-      let low : place < count = omega (arith, simp length-take at h) in
-      rw (get_or-take count rules place no_rule low) (sought.none place (omega arith) low)
+  pub sought_begin : (held : Option ℕ) → Last (remainder_of rules) count (number % remainders) held → Sought rules number count held
+  sought_begin held last = record { alike = last.bears; none = λ place b a e. last.none place b a (ap (λ n. n % remainders) e) }
 
-  pub sought_found : (place : ℕ) → count ≤ length rules → place < count → (rule_at rules place).number ≡ number → Free number (take count rules) → ⊥
-  sought_found place few low same free = free place (simp length-take (omega arith)) (rw (get_or-take count rules place no_rule low) same)
+  -- the held one does not, and the one before it is held
+  pub sought_next : (place : ℕ) (held next : Option ℕ) → Some place ≡ held → ¬ ((rule_at rules place).number ≡ number) → Last (remainder_of rules) place (remainder_of rules place) next → Sought rules number count held → Sought rules number count next
+  sought_next place held next is other last sought =
+      let here = sought.alike place (sym is) in
+      record {
+        alike = λ q e. let b = last.bears q e in let low = b.0 in let fit = here.0 in (omega arith, b.1 ∙ here.1);
+        none = λ p b a e.
+            ⊎_elim
+            (λ (s : p ≡ place). other (subst (λ (x : ℕ). (rule_at rules x).number ≡ number) s e))
+            (λ o.
+            ⊎_elim
+            (λ (l : p < place). last.none p l a (ap (λ n. n % remainders) e ∙ sym here.1))
+            (λ (l : place < p). sought.none p b (λ q k. let s = same_Some place q (is ∙ k) in omega arith) e) o)
+            (cases_order p place);
+      }

@@ -1,33 +1,45 @@
 -- How far the names of a file were asked about. Assumes nothing.
-use Rattle.std.proofs.Common.{◌≡◌, ℕ, suc, ◌+◌, ◌-◌, ◌<◌, List, length, arith}
+use Rattle.std.proofs.Common.{◌≡◌, ℕ, zero, suc, ◌+◌, ◌-◌, ◌<◌, List, length, get_or, drop, Option, None, Some, MatchOption, refl, inl, inr, arith, length-take, length-drop}
+use Rattle.std.specs.List.{AllWithin, HoldsAt}
+use Rattle.std.proofs.lemmas.List.{get_or-take, get_or-drop}
 use Rattle.rules.specs.Questions.{AllYes, FirstNo}
 use Rattle.rules.proofs.Asking.{Left, begin, next, stop, past, within, no_left}
-use Rattle.books.specs.Layout.{events_start, byte_at, u16_at, name_start}
+use Rattle.books.specs.Layout.{events_start, byte_at, u16_at, name_start, part}
 use Rattle.books.specs.Files.{HasName, Letter, letter_questions, name_questions, names_questions, head_questions, file_questions}
 
--- of the name at a place, the bytes from letter on are left
-abbrev pub LettersLeft : List ℕ → ℕ → ℕ → Type 0
-LettersLeft file at letter = (k : ℕ) → letter + k ≡ at + 1 + byte_at file at → Left (letter_questions file k letter) (name_questions file at)
-
-pub letters_begin : (file : List ℕ) (at : ℕ) → HasName file at → LettersLeft file at (at + 1)
-unfolding name_questions
-letters_begin file at there k e = let s : k ≡ byte_at file at = omega arith in rw s (next (begin (name_questions file at)) there)
-
-pub letters_more : (file : List ℕ) (at letter : ℕ) → Letter (byte_at file letter) → LettersLeft file at letter → LettersLeft file at (letter + 1)
+letters_yes : (file : List ℕ) (k at : ℕ) → ((j : ℕ) → j < k → Letter (byte_at file (at + j))) → AllYes (letter_questions file k at)
 unfolding letter_questions
-letters_more file at letter good left k e = next (left (suc k) (omega arith)) good
+letters_yes file zero at good = tt
+letters_yes file (suc k) at good =
+    let e : at + 0 ≡ at = omega arith in
+    (rw (e) at (good 0 (omega arith)), letters_yes file k (at + 1) (λ j h. let n : at + suc j ≡ at + 1 + j = omega arith in rw (n) at (good (suc j) (omega arith))))
 
-pub letters_no : (file : List ℕ) (at letter : ℕ) → letter < at + 1 + byte_at file at → (Letter (byte_at file letter) → ⊥) → LettersLeft file at letter → FirstNo (name_questions file at) 28 letter
+letters_no : (file : List ℕ) (k at j : ℕ) → j < k → ((i : ℕ) → i < j → Letter (byte_at file (at + i))) → (Letter (byte_at file (at + j)) → ⊥) → FirstNo (letter_questions file k at) 28 (at + j)
 unfolding letter_questions
-letters_no file at letter h bad left = stop (left (suc (at + byte_at file at - letter)) (omega arith)) bad
+letters_no file zero at j h good bad = absurd (omega arith)
+letters_no file (suc k) at zero h good bad = let e : at + 0 ≡ at = omega arith in inl (rw (e) at bad, refl, e)
+letters_no file (suc k) at (suc j) h good bad =
+    let e : at + 0 ≡ at = omega arith in
+    let n : at + suc j ≡ at + 1 + j = omega arith in
+    let later = letters_no file k (at + 1) j (omega arith) (λ i l. let m : at + suc i ≡ at + 1 + i = omega arith in rw (m) at (good (suc i) (omega arith))) (rw (n) at bad) in
+    inr (rw (e) at (good 0 (omega arith)), rw n later)
 
-pub letters_all : (file : List ℕ) (at letter : ℕ) → letter ≡ at + 1 + byte_at file at → LettersLeft file at letter → AllYes (name_questions file at)
-unfolding letter_questions
-letters_all file at letter e left = (left 0 (omega arith)).all_yes tt
+name_byte : (file : List ℕ) (at : ℕ) (name : List ℕ) → name ≡ part file (at + 1) (byte_at file at) → (i : ℕ) → i < byte_at file at → get_or name i 0 ≡ byte_at file (at + 1 + i)
+name_byte file at name is i low = rw (is, get_or-take (byte_at file at) (drop (at + 1) file) i 0 low, get_or-drop) refl
 
 pub name_no : (file : List ℕ) (at : ℕ) → (HasName file at → ⊥) → FirstNo (name_questions file at) 27 at
 unfolding name_questions
 name_no file at bad = stop (begin (name_questions file at)) bad
+
+-- what a look for the first byte that is no letter tells, in a name that is there
+pub name_told : (file : List ℕ) (at : ℕ) → HasName file at → (name : List ℕ) → name ≡ part file (at + 1) (byte_at file at) → (r : Option ℕ) → MatchOption r (AllWithin Letter name 0 (length name)) (λ i. (i < length name) × HoldsAt (λ b. ¬ Letter b) name i × AllWithin Letter name 0 i) → MatchOption r (AllYes (name_questions file at)) (λ i. FirstNo (name_questions file at) 28 (at + 1 + i))
+unfolding name_questions
+name_told file at there name is None all =
+    let long : length name ≡ byte_at file at = rw is (simp (length-take, length-drop) (omega arith)) in
+    (there, letters_yes file (byte_at file at) (at + 1) (λ j h. rw (← name_byte file at name is j h) (all j 0 (omega arith) (omega arith))))
+name_told file at there name is (Some i) (h, bad, before) =
+    let long : length name ≡ byte_at file at = rw is (simp (length-take, length-drop) (omega arith)) in
+    inr (there, letters_no file (byte_at file at) (at + 1) i (omega arith) (λ j l. rw (← name_byte file at name is j (omega arith)) (before j 0 (omega arith) l)) (λ good. bad 0 (rw (name_byte file at name is i (omega arith)) good)))
 
 -- of the file, the names from an event's on are left, its name being at that place
 abbrev pub NamesLeft : List ℕ → ℕ → ℕ → Type 0

@@ -7,14 +7,9 @@ ghost use Rattle.books.specs.Checks.{Free, rule_questions, rules_questions, coun
 ghost use Rattle.books.specs.Numbering.{remainders, remainder_of};
 
 use crate::Book;
-use links::link;
+use links::{Links, link};
+use rules::bounds::{MAX_EVENTS, MAX_LIMIT, MAX_RULES};
 use rules::{Refusal, Rule, RuleNumber};
-
-const MAX_EVENTS: u16 = 1_024;
-
-const MAX_RULES: u16 = 4_096;
-
-const MAX_LIMIT: i32 = 100_000_000;
 
 // Rules are linked by the remainders of their numbers, so that few places are looked at for each number.
 const REMAINDERS: u16 = 4_096;
@@ -24,34 +19,20 @@ pub fn known<B: Book>(book: &B, place: u16) -> Rule
     requires { place < length (B.Book.meaning book.now).rules }
     ensures { result ≡ rule_at (B.Book.meaning book.now).rules place }
 {
-    match book.rule(place) {
-        Ok(rule) => rule,
-        Err(_) => unreachable(),
-    }
+    book.rule(place).unwrap()
 }
 
-// Whether the rule at a place bears the number.
-fn bears<B: Book>(book: &B, place: u16, number: RuleNumber) -> bool
-    requires { place < length (B.Book.meaning book.now).rules }
-    ensures { Decides result ((rule_at (B.Book.meaning book.now).rules place).number ≡ number) }
-{
-    known(book, place).number == number
-}
-
-// Whether none of the first rules bears the number.
-fn is_free<B: Book>(book: &B, number: RuleNumber, place: u16, heads: &[u16], nexts: &[u16]) -> bool
+// Whether none of the rules before a place bears the number.
+fn is_free<B: Book>(book: &B, number: RuleNumber, place: u16, links: &Links) -> bool
     requires place { place ≤ length (B.Book.meaning book.now).rules }
-    requires heads { length heads.now ≡ remainders }
-    requires nexts { place ≤ length nexts.now }
-    requires linked { Linked (remainder_of (B.Book.meaning book.now).rules) place heads.now nexts.now }
+    requires heads { length links.now.heads.now ≡ remainders }
+    requires linked { Linked (remainder_of (B.Book.meaning book.now).rules) place links.now.heads.now links.now.nexts.now }
     ensures { Decides result (Free number (take place (B.Book.meaning book.now).rules)) }
 {
-    let mut held = heads[(number % REMAINDERS) as usize];
-    while held > 0 {
-        if bears(book, held - 1, number) {
+    for earlier in links.places((number % REMAINDERS) as usize) {
+        if known(book, earlier).number == number {
             return false;
         }
-        held = nexts[held as usize - 1];
     }
     true
 }
@@ -59,15 +40,14 @@ fn is_free<B: Book>(book: &B, number: RuleNumber, place: u16, heads: &[u16], nex
 fn within_limits(limit: i32) -> bool
     ensures { Decides result ((min_limit ≤ℤ limit) × (limit ≤ℤ max_limit)) }
 {
-    limit >= -MAX_LIMIT && limit <= MAX_LIMIT
+    (-MAX_LIMIT..=MAX_LIMIT).contains(&limit)
 }
 
 // Puts questions 3 to 6 of the rule at a place, beside the rules at the places before it.
-fn check_rule<B: Book>(book: &B, place: u16, heads: &[u16], nexts: &[u16]) -> Result<(), Refusal>
+fn check_rule<B: Book>(book: &B, place: u16, links: &Links) -> Result<(), Refusal>
     requires place { place < length (B.Book.meaning book.now).rules }
-    requires heads { length heads.now ≡ remainders }
-    requires nexts { place ≤ length nexts.now }
-    requires linked { Linked (remainder_of (B.Book.meaning book.now).rules) place heads.now nexts.now }
+    requires heads { length links.now.heads.now ≡ remainders }
+    requires linked { Linked (remainder_of (B.Book.meaning book.now).rules) place links.now.heads.now links.now.nexts.now }
     ensures { Answered (rule_questions (B.Book.meaning book.now).events place (take place (B.Book.meaning book.now).rules) (rule_at (B.Book.meaning book.now).rules place)) (outcome result) }
 {
     let rule = known(book, place);
@@ -81,7 +61,7 @@ fn check_rule<B: Book>(book: &B, place: u16, heads: &[u16], nexts: &[u16]) -> Re
     if !within_limits(rule.limit) {
         return Err(Refusal::LimitRange(place));
     }
-    if !is_free(book, rule.number, place, heads, nexts) {
+    if !is_free(book, rule.number, place, links) {
         return Err(Refusal::NumberTaken(place));
     }
     Ok(())
@@ -92,10 +72,15 @@ fn check_rules<B: Book>(book: &B) -> Result<(), Refusal>
     requires { length (B.Book.meaning book.now).rules ≤ max_rules }
     ensures { Answered (rules_questions (B.Book.meaning book.now).events [] (B.Book.meaning book.now).rules) (outcome result) }
 {
-    let mut heads = [0u16; REMAINDERS as usize];
-    let mut nexts = [0u16; MAX_RULES as usize];
+    let mut heads = [None; REMAINDERS as usize];
+    let mut nexts = [None; MAX_RULES as usize];
+    // A book is asked by place.
     for place in 0..book.count() {
-        check_rule(book, place, &heads, &nexts)?;
+        let links = Links {
+            heads: &heads,
+            nexts: &nexts,
+        };
+        check_rule(book, place, &links)?;
         let remainder = known(book, place).number % REMAINDERS;
         link(&mut heads, &mut nexts, remainder as usize, place);
     }
@@ -107,7 +92,7 @@ fn check_counts<B: Book>(book: &B) -> Result<(), Refusal>
     ensures { Answered (count_questions (B.Book.meaning book.now)) (outcome result) }
 {
     let events = book.events();
-    if events < 1 || events > MAX_EVENTS {
+    if !(1..=MAX_EVENTS).contains(&events) {
         return Err(Refusal::EventCount);
     }
     if book.count() > MAX_RULES {

@@ -1,10 +1,11 @@
-ghost use Rattle.std.specs.Prelude.{◌≡◌, ℕ, ◌+◌, ◌<◌, ◌≤◌, length, take, IfOk, Decides, MatchOption, OnOk};
+ghost use Rattle.std.specs.Prelude.{◌≡◌, ℕ, ◌+◌, ◌^◌, ◌<◌, ◌≤◌, length, take, IfOk, Decides, MatchOption, OnOk};
 ghost use Rattle.rules.specs.Questions.{Answered, outcome};
 ghost use Rattle.books.specs.Opened.{file_of};
 ghost use Rattle.books.specs.Layout.{mark, byte_at, u16_at, events_start, count_start, rule_start, name_start, part};
 ghost use Rattle.books.specs.Files.{rule_from, book_of, name_of, HasName, Letter, Spelled, head_questions, name_questions, file_questions};
 
-use crate::Book;
+use crate::{Book, front};
+use rules::bounds::{MAX_EVENTS, MAX_RULES};
 use rules::{Refusal, Rule};
 
 // The bytes that a file starts with.
@@ -23,10 +24,6 @@ const HEAD_SIZE: usize = 9;
 
 const RULE_SIZE: usize = 10;
 
-const MAX_EVENTS: u16 = 1_024;
-
-const MAX_RULES: u16 = 4_096;
-
 const MAX_NAME: u8 = 12;
 
 const MIN_LETTER: u8 = 32;
@@ -43,7 +40,7 @@ pub struct Packed<'a> {
 fn byte(bytes: &[u8], at: usize) -> u8
     ensures { result ≡ byte_at bytes.now at }
 {
-    if at < bytes.len() { bytes[at] } else { 0 }
+    bytes.get(at).copied().unwrap_or(0)
 }
 
 // The number of 16 bits that starts at a place, high byte first.
@@ -113,7 +110,7 @@ fn check_head(bytes: &[u8]) -> Result<(), Refusal>
         return Err(Refusal::FileVersion);
     }
     let events = event_count(bytes);
-    if events < 1 || events > MAX_EVENTS {
+    if !(1..=MAX_EVENTS).contains(&events) {
         return Err(Refusal::FileEvents);
     }
     let count = rule_count(bytes);
@@ -131,14 +128,31 @@ fn has_name(bytes: &[u8], at: usize) -> bool
     requires { at ≤ length bytes.now }
     ensures { Decides result (HasName bytes.now at) }
 {
-    let left = bytes.len() - at;
-    left > 0 && bytes[at] <= MAX_NAME && (bytes[at] as usize) < left
+    match bytes[at..].split_first() {
+        Some((size, rest)) => *size <= MAX_NAME && *size as usize <= rest.len(),
+        None => false,
+    }
 }
 
 fn is_letter(byte: u8) -> bool
     ensures { Decides result (Letter byte) }
 {
-    byte >= MIN_LETTER && byte <= MAX_LETTER
+    (MIN_LETTER..=MAX_LETTER).contains(&byte)
+}
+
+// The part of the bytes that starts at a place and has so many bytes, as far as they go.
+fn part_of(bytes: &[u8], start: usize, size: u8) -> &[u8]
+    ensures { result.now ≡ part bytes.now start size }
+{
+    front(bytes.get(start..).unwrap_or(&[]), size as usize)
+}
+
+// The name whose length byte is at a place.
+fn name_at(bytes: &[u8], at: usize) -> &[u8]
+    requires { at < 2 ^ 63 }
+    ensures { result.now ≡ part bytes.now (at + 1) (byte_at bytes.now at) }
+{
+    part_of(bytes, at + 1, byte(bytes, at))
 }
 
 // Puts questions 27 and 28 of the name whose length byte is at a place, and answers the place after the name.
@@ -150,13 +164,11 @@ fn check_name(bytes: &[u8], at: usize) -> Result<usize, Refusal>
     if !has_name(bytes, at) {
         return Err(Refusal::NameCut(at));
     }
-    let end = at + 1 + bytes[at] as usize;
-    for letter in at + 1..end {
-        if !is_letter(bytes[letter]) {
-            return Err(Refusal::NameByte(letter));
-        }
+    let name = name_at(bytes, at);
+    match name.iter().position(|byte| !is_letter(*byte)) {
+        Some(before) => Err(Refusal::NameByte(at + 1 + before)),
+        None => Ok(at + 1 + name.len()),
     }
-    Ok(end)
 }
 
 // Where the length byte of an event's name stands.
@@ -165,27 +177,10 @@ fn start_of_name(bytes: &[u8], event: u16) -> usize
     ensures small { result ≤ 20_000_000 }
 {
     let mut at = start_of(rule_count(bytes));
-    for passed in 0..event {
+    for _ in 0..event {
         at += 1 + byte(bytes, at) as usize;
     }
     at
-}
-
-// The part of the bytes that starts at a place and has so many bytes, as far as they go.
-fn part_of(bytes: &[u8], start: usize, size: u8) -> &[u8]
-    requires { start ≤ 30_000_000 }
-    ensures { result.now ≡ part bytes.now start size }
-{
-    let length = bytes.len();
-    &bytes[start.min(length)..(start + size as usize).min(length)]
-}
-
-// The name whose length byte is at a place.
-fn name_at(bytes: &[u8], at: usize) -> &[u8]
-    requires { at ≤ 20_000_000 }
-    ensures { result.now ≡ part bytes.now (at + 1) (byte_at bytes.now at) }
-{
-    part_of(bytes, at + 1, byte(bytes, at))
 }
 
 impl<'a> Packed<'a> {
@@ -197,7 +192,7 @@ impl<'a> Packed<'a> {
     {
         check_head(bytes)?;
         let mut at = start_of(rule_count(bytes));
-        for event in 0..event_count(bytes) {
+        for _ in 0..event_count(bytes) {
             at = check_name(bytes, at)?;
         }
         if at != bytes.len() {

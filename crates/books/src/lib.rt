@@ -2,7 +2,7 @@
 
 #![tactic(auto)]
 
-ghost use Rattle.std.specs.Prelude.{◌≡◌, length};
+ghost use Rattle.std.specs.Prelude.{◌≡◌, length, take};
 ghost use Rattle.books.specs.Contents.{BookContents, answer_at};
 
 use rules::{Refusal, Rule};
@@ -31,4 +31,11 @@ pub trait Book {
     // The rule at a place, or refusal 17.
     fn rule(&self, place: u16) -> Result<Rule, Refusal>
         ensures { result ≡ answer_at (meaning self.now).rules place };
+}
+
+// The first so many, or all where there are fewer.
+fn front<T>(all: &[T], size: usize) -> &[T]
+    ensures { result.now ≡ take size all.now }
+{
+    all.get(..size).unwrap_or(all)
 }

@@ -1,12 +1,8 @@
-ghost use Rattle.std.specs.Prelude.{◌≡◌, ◌<◌, min, length, take};
-ghost use Rattle.rules.specs.Places.{rule_at};
+ghost use Rattle.std.specs.Prelude.{◌≡◌, min, take};
 ghost use Rattle.rules.specs.Bounds.{max_count};
 
-use crate::Book;
+use crate::{Book, front};
 use rules::{Refusal, Rule};
-
-// The most rules that a count of 16 bits tells.
-const MAX_COUNT: usize = 65_535;
 
 // A book over rule records handed over. It tells at most the first 65,535.
 #[derive(Clone, Copy)]
@@ -18,14 +14,7 @@ pub struct Listed<'a> {
 fn count_told(records: usize) -> u16
     ensures { result ≡ min max_count records }
 {
-    records.min(MAX_COUNT) as u16
-}
-
-fn record_at(rules: &[Rule], place: u16) -> Rule
-    requires { place < length rules.now }
-    ensures { result ≡ rule_at rules.now place }
-{
-    rules[place as usize]
+    u16::try_from(records).unwrap_or(u16::MAX)
 }
 
 impl<'a> Book for Listed<'a> {
@@ -40,10 +29,9 @@ impl<'a> Book for Listed<'a> {
     }
 
     fn rule(&self, place: u16) -> Result<Rule, Refusal> {
-        if place < self.count() {
-            Ok(record_at(self.rules, place))
-        } else {
-            Err(Refusal::PlacePast)
-        }
+        front(self.rules, u16::MAX as usize)
+            .get(place as usize)
+            .copied()
+            .ok_or(Refusal::PlacePast)
     }
 }

@@ -2,21 +2,20 @@
 #![tactic(auto)]
 
 ghost use Rattle.std.specs.Prelude.{◌≡◌, Bool, true, false, ℕ, ◌+◌, ◌≤◌};
+ghost use Rattle.std.specs.Ordering.{partial_lt};
 ghost use Rattle.delays.specs.Exactness.{exact_size};
 
-pub mod counts;
+pub mod amounts;
 pub mod pairs;
-pub mod times;
 
-pub use counts::Count;
+pub use amounts::{Amount, Count, Millis};
 pub use pairs::Pair;
-pub use times::Millis;
 
 // A kind of delay: an ordered commutative group, each value of which has a size.
 // The ghost members are the kind's mathematics, on unbounded values, and the laws hold of all of them.
 // The methods compute it, exactly while the sizes in a sum or an opposite add to at most 4 × 10^18.
 // Past that they still return, with a value of which nothing is promised.
-pub trait Delay: Copy {
+pub trait Delay: Copy + Ord {
     ghost zero: { Self };
 
     ghost plus: { Self → Self → Self };
@@ -38,7 +37,10 @@ pub trait Delay: Copy {
 
     // Whether this value is strictly less than the other.
     fn below(self, other: Self) -> bool
-        ensures { result ≡ less self other };
+        ensures { result ≡ less self other }
+    {
+        self < other
+    }
 
     // Sums make a commutative group.
     ghost identity: { (x : Self) → plus zero x ≡ x };
@@ -58,6 +60,9 @@ pub trait Delay: Copy {
 
     // Adding the same to both sides keeps less, equal and greater as they are.
     ghost shifted: { (x y z : Self) → less (plus z x) (plus z y) ≡ less x y };
+
+    // `<`, as each kind derives it, is less.
+    ghost ordered: { (x y : Self) → partial_lt Self.partial_cmp x y ≡ less x y };
 
     ghost size_zero: { size zero ≡ 0 };
 

@@ -1,5 +1,5 @@
 // Questions 21 to 29, the decoded book, and its names.
-use crate::writing::{ACCEPTED, File, answer, told};
+use crate::writing::{Answer, File, answer, rule, told};
 use books::{Book, Packed};
 use std::alloc::{AllocError, Global};
 use std::test::Fail;
@@ -13,47 +13,33 @@ const CARD_FILL: &[u8; 65] = b"FPD\x00\x01\x00\x03\x00\x04\
 \x04card\x04lift\x05valve";
 
 // The fill with one byte changed.
-fn changed(at: usize, byte: u8) -> (u8, usize) {
+fn changed(at: usize, byte: u8) -> Answer {
     let mut file = *CARD_FILL;
-    if at < 65 {
-        file[at] = byte;
+    if let Some(old) = file.get_mut(at) {
+        *old = byte;
     }
     answer(&file)
 }
 
 // The fill's first bytes.
-fn front(size: usize) -> (u8, usize) {
-    answer(&CARD_FILL[0..size.min(65)])
+fn front(size: usize) -> Answer {
+    answer(&CARD_FILL[..size.min(65)])
 }
 
 fn named(book: &Packed, event: u16, name: &[u8]) -> bool {
-    match book.name(event) {
-        Some(part) => part == name,
-        None => false,
-    }
+    book.name(event).is_some_and(|part| part == name)
 }
 
 #[test]
 fn fill_is_decoded(rt: HostRuntime) -> Result<(), Fail> {
-    assert_eq!(rt; answer(CARD_FILL), ACCEPTED);
+    assert_eq!(rt; answer(CARD_FILL), Ok(()));
     let Ok(book) = Packed::open(CARD_FILL) else {
         return Err(Fail::new("refused"));
     };
     assert_eq!(rt; (book.events(), book.count()), (3, 4));
-    let Ok(rule) = book.rule(3) else {
-        return Err(Fail::new("no rule at place 3"));
-    };
-    assert_eq!(rt;
-        (rule.number, rule.first, rule.second, rule.limit),
-        (13, 2, 1, -150)
-    );
-    match book.rule(4) {
-        Ok(_) => Err(Fail::new("a rule at place 4")),
-        Err(refusal) => {
-            assert_eq!(rt; told(refusal), (17, 0));
-            Ok(())
-        },
-    }
+    assert_eq!(rt; book.rule(3), Ok(rule(13, 2, 1, -150)));
+    assert_eq!(rt; book.rule(4).map_err(told), Err((17, 0)));
+    Ok(())
 }
 
 #[test]
@@ -69,45 +55,39 @@ fn names_are_parts_of_the_file(rt: HostRuntime) -> Result<(), Fail> {
 #[test]
 fn bytes_are_high_first(rt: HostRuntime) -> Result<(), Fail> {
     let mut file = File::new(rt.alloc(), 0x0203, 1)?;
-    file.rule(0x0405, 0x0107, 0x0009, 0x0011_2233)?;
+    file.rule(rule(0x0405, 0x0107, 0x0009, 0x0011_2233))?;
     file.nameless(0x0203)?;
     let Ok(book) = Packed::open(&file.bytes) else {
         return Err(Fail::new("refused"));
     };
     assert_eq!(rt; book.events(), 0x0203);
-    let Ok(rule) = book.rule(0) else {
-        return Err(Fail::new("no rule"));
-    };
-    assert_eq!(rt;
-        (rule.number, rule.first, rule.second, rule.limit),
-        (0x0405, 0x0107, 0x0009, 0x0011_2233)
-    );
+    assert_eq!(rt; book.rule(0), Ok(rule(0x0405, 0x0107, 0x0009, 0x0011_2233)));
     Ok(())
 }
 
 // Byte changes of the fill, with what each leads to.
-const CHANGES: [(usize, u8, (u8, usize)); 20] = [
-    (0, b'f', (22, 0)),
-    (1, b'Q', (22, 0)),
-    (2, b'E', (22, 0)),
-    (3, 1, (23, 3)),
-    (4, 0, (23, 3)),
-    (4, 2, (23, 3)),
-    (6, 0, (24, 5)),
-    (7, 255, (25, 7)),
-    (8, 5, (27, 65)),
-    (8, 6, (26, 65)),
-    (49, 13, (27, 49)),
-    (59, 6, (27, 59)),
+const CHANGES: [(usize, u8, Answer); 20] = [
+    (0, b'f', Err((22, 0))),
+    (1, b'Q', Err((22, 0))),
+    (2, b'E', Err((22, 0))),
+    (3, 1, Err((23, 3))),
+    (4, 0, Err((23, 3))),
+    (4, 2, Err((23, 3))),
+    (6, 0, Err((24, 5))),
+    (7, 255, Err((25, 7))),
+    (8, 5, Err((27, 65))),
+    (8, 6, Err((26, 65))),
+    (49, 13, Err((27, 49))),
+    (59, 6, Err((27, 59))),
     // The first name's bytes are asked about before the second name's length.
-    (51, 127, (28, 51)),
-    (6, 2, (29, 59)),
-    (59, 4, (29, 64)),
-    (10, 0, (3, 0)),
-    (22, 3, (4, 1)),
-    (35, 9, (5, 2)),
-    (45, 0x80, (5, 3)),
-    (40, 11, (6, 3)),
+    (51, 127, Err((28, 51))),
+    (6, 2, Err((29, 59))),
+    (59, 4, Err((29, 64))),
+    (10, 0, Err((3, 0))),
+    (22, 3, Err((4, 1))),
+    (35, 9, Err((5, 2))),
+    (45, 0x80, Err((5, 3))),
+    (40, 11, Err((6, 3))),
 ];
 
 #[test]
@@ -118,17 +98,17 @@ fn changed_bytes(rt: HostRuntime) {
 }
 
 // How many bytes of the fill are there, with what they lead to.
-const FRONTS: [(usize, (u8, usize)); 10] = [
-    (0, (21, 0)),
-    (8, (21, 8)),
-    (9, (26, 9)),
-    (48, (26, 48)),
-    (49, (27, 49)),
-    (50, (27, 49)),
-    (53, (27, 49)),
-    (54, (27, 54)),
-    (64, (27, 59)),
-    (65, ACCEPTED),
+const FRONTS: [(usize, Answer); 10] = [
+    (0, Err((21, 0))),
+    (8, Err((21, 8))),
+    (9, Err((26, 9))),
+    (48, Err((26, 48))),
+    (49, Err((27, 49))),
+    (50, Err((27, 49))),
+    (53, Err((27, 49))),
+    (54, Err((27, 54))),
+    (64, Err((27, 59))),
+    (65, Ok(())),
 ];
 
 #[test]
@@ -142,24 +122,24 @@ fn files_cut_short(rt: HostRuntime) {
 fn files_too_long(rt: HostRuntime) -> Result<(), Fail> {
     let mut file = CARD_FILL.to_vec(rt.alloc())?;
     file.push(0)?;
-    assert_eq!(rt; answer(&file), (29, 65));
+    assert_eq!(rt; answer(&file), Err((29, 65)));
     file.push(65)?;
-    assert_eq!(rt; answer(&file), (29, 65));
+    assert_eq!(rt; answer(&file), Err((29, 65)));
     // The file is asked about before its book.
     if let Some(number) = file.get_mut(10) {
         *number = 0;
     }
-    assert_eq!(rt; answer(&file), (29, 65));
+    assert_eq!(rt; answer(&file), Err((29, 65)));
     Ok(())
 }
 
 // Heads with several faults, and what the first leads to.
-const HEADS: [(&[u8; 9], (u8, usize)); 5] = [
-    (b"FPE\x00\x02\x00\x00\xff\xff", (22, 0)),
-    (b"FPD\x00\x02\x00\x00\xff\xff", (23, 3)),
-    (b"FPD\x00\x01\x00\x00\xff\xff", (24, 5)),
-    (b"FPD\x00\x01\x00\x01\xff\xff", (25, 7)),
-    (b"FPD\x00\x01\x00\x01\x00\x00", (27, 9)),
+const HEADS: [(&[u8; 9], Answer); 5] = [
+    (b"FPE\x00\x02\x00\x00\xff\xff", Err((22, 0))),
+    (b"FPD\x00\x02\x00\x00\xff\xff", Err((23, 3))),
+    (b"FPD\x00\x01\x00\x00\xff\xff", Err((24, 5))),
+    (b"FPD\x00\x01\x00\x01\xff\xff", Err((25, 7))),
+    (b"FPD\x00\x01\x00\x01\x00\x00", Err((27, 9))),
 ];
 
 #[test]
@@ -169,7 +149,7 @@ fn first_fault_of_a_head(rt: HostRuntime) {
     }
 }
 
-fn of_events(heap: Global, events: u16) -> Result<(u8, usize), AllocError> {
+fn of_events(heap: Global, events: u16) -> Result<Answer, AllocError> {
     let mut file = File::new(heap, events, 0)?;
     file.nameless(events)?;
     Ok(answer(&file.bytes))
@@ -178,11 +158,11 @@ fn of_events(heap: Global, events: u16) -> Result<(u8, usize), AllocError> {
 #[test]
 fn event_counts(rt: HostRuntime) -> Result<(), Fail> {
     for (events, expected) in [
-        (0, (24, 5)),
-        (1, ACCEPTED),
-        (1_024, ACCEPTED),
-        (1_025, (24, 5)),
-        (65_535, (24, 5)),
+        (0, Err((24, 5))),
+        (1, Ok(())),
+        (1_024, Ok(())),
+        (1_025, Err((24, 5))),
+        (65_535, Err((24, 5))),
     ] {
         assert_eq!(rt; of_events(rt.alloc(), events)?, expected);
     }
@@ -193,7 +173,7 @@ fn event_counts(rt: HostRuntime) -> Result<(), Fail> {
 fn of_rules(heap: Global, rules: u16, events: u16, name: &[u8]) -> Result<File, AllocError> {
     let mut file = File::new(heap, events, rules)?;
     for place in 0..rules {
-        file.rule(place.saturating_add(1), 0, 1, 5)?;
+        file.rule(rule(place.saturating_add(1), 0, 1, 5))?;
     }
     for _ in 0..events {
         file.name(name)?;
@@ -203,7 +183,7 @@ fn of_rules(heap: Global, rules: u16, events: u16, name: &[u8]) -> Result<File, 
 
 #[test]
 fn rule_counts(rt: HostRuntime) -> Result<(), Fail> {
-    for (rules, expected) in [(0, ACCEPTED), (4_096, ACCEPTED), (4_097, (25, 7))] {
+    for (rules, expected) in [(0, Ok(())), (4_096, Ok(())), (4_097, Err((25, 7)))] {
         assert_eq!(rt;
             answer(&of_rules(rt.alloc(), rules, 2, b"")?.bytes),
             expected
@@ -217,30 +197,30 @@ fn longest_file(rt: HostRuntime) -> Result<(), Fail> {
     let longest = of_rules(rt.alloc(), 4_096, 1_024, b"twelve bytes")?;
     assert_eq!(rt;
         (longest.bytes.len(), answer(&longest.bytes)),
-        (54_281, ACCEPTED)
+        (54_281, Ok(()))
     );
     let too_long = of_rules(rt.alloc(), 4_096, 1_024, b"thirteen byte")?;
-    assert_eq!(rt; answer(&too_long.bytes), (27, 40_969));
+    assert_eq!(rt; answer(&too_long.bytes), Err((27, 40_969)));
     Ok(())
 }
 
-fn of_name(heap: Global, name: &[u8]) -> Result<(u8, usize), AllocError> {
+fn of_name(heap: Global, name: &[u8]) -> Result<Answer, AllocError> {
     let mut file = File::new(heap, 1, 0)?;
     file.name(name)?;
     Ok(answer(&file.bytes))
 }
 
 // So many bytes of one value as a name.
-const NAMES: [(usize, u8, (u8, usize)); 9] = [
-    (0, 65, ACCEPTED),
-    (1, 65, ACCEPTED),
-    (12, 65, ACCEPTED),
-    (13, 65, (27, 9)),
-    (13, 31, (27, 9)),
-    (1, 31, (28, 10)),
-    (12, 32, ACCEPTED),
-    (12, 126, ACCEPTED),
-    (2, 127, (28, 10)),
+const NAMES: [(usize, u8, Answer); 9] = [
+    (0, 65, Ok(())),
+    (1, 65, Ok(())),
+    (12, 65, Ok(())),
+    (13, 65, Err((27, 9))),
+    (13, 31, Err((27, 9))),
+    (1, 31, Err((28, 10))),
+    (12, 32, Ok(())),
+    (12, 126, Ok(())),
+    (2, 127, Err((28, 10))),
 ];
 
 #[test]
@@ -249,6 +229,6 @@ fn names_alone(rt: HostRuntime) -> Result<(), Fail> {
         let name = vec![in rt.alloc(); byte; size]?;
         assert_eq!(rt; of_name(rt.alloc(), &name)?, expected);
     }
-    assert_eq!(rt; of_name(rt.alloc(), &[65, 66, 255])?, (28, 12));
+    assert_eq!(rt; of_name(rt.alloc(), &[65, 66, 255])?, Err((28, 12)));
     Ok(())
 }

@@ -1,37 +1,25 @@
 // Questions 1 to 6 and 17, of books over rule records.
-use crate::writing::{ACCEPTED, told};
+use crate::writing::{Answer, rule, told};
 use books::{Book, Listed, check as check_book};
 use rules::Rule;
 use std::test::Fail;
 
-const fn rule(number: u16, first: u16, second: u16, limit: i32) -> Rule {
-    Rule {
-        number,
-        first,
-        second,
-        limit,
-    }
-}
-
-fn answer(events: u16, rules: &[Rule]) -> (u8, usize) {
-    match check_book(&Listed { events, rules }) {
-        Ok(()) => ACCEPTED,
-        Err(refusal) => told(refusal),
-    }
+fn answer(events: u16, rules: &[Rule]) -> Answer {
+    check_book(&Listed { events, rules }).map_err(told)
 }
 
 #[test]
 fn event_counts(rt: HostRuntime) {
     for (events, expected) in [
-        (0, (1, 0)),
-        (1, ACCEPTED),
-        (1_024, ACCEPTED),
-        (1_025, (1, 0)),
-        (65_535, (1, 0)),
+        (0, Err((1, 0))),
+        (1, Ok(())),
+        (1_024, Ok(())),
+        (1_025, Err((1, 0))),
+        (65_535, Err((1, 0))),
     ] {
         assert_eq!(rt; answer(events, &[]), expected);
     }
-    assert_eq!(rt; answer(0, &[rule(0, 9, 9, 0)]), (1, 0));
+    assert_eq!(rt; answer(0, &[rule(0, 9, 9, 0)]), Err((1, 0)));
 }
 
 #[test]
@@ -40,50 +28,48 @@ fn rule_counts(rt: HostRuntime) -> Result<(), Fail> {
     for number in 1..=4_096u16 {
         rules.push(rule(number, 0, 0, 0))?;
     }
-    assert_eq!(rt; answer(1, &rules), ACCEPTED);
+    assert_eq!(rt; answer(1, &rules), Ok(()));
     rules.push(rule(0, 9, 9, 0))?;
-    assert_eq!(rt; answer(1, &rules), (2, 0));
-    assert_eq!(rt; answer(0, &rules), (1, 0));
+    assert_eq!(rt; answer(1, &rules), Err((2, 0)));
+    assert_eq!(rt; answer(0, &rules), Err((1, 0)));
     Ok(())
 }
 
-// A rule alone in a book of two events, as number, events and limit, with what it leads to.
-const ALONE: [((u16, u16, u16, i32), (u8, usize)); 14] = [
-    ((0, 0, 1, 0), (3, 0)),
-    ((1, 0, 1, 0), ACCEPTED),
-    ((65_535, 1, 1, 0), ACCEPTED),
-    ((1, 2, 1, 0), (4, 0)),
-    ((1, 1, 2, 0), (4, 0)),
-    ((1, 0, 1, 100_000_000), ACCEPTED),
-    ((1, 0, 1, 100_000_001), (5, 0)),
-    ((1, 0, 1, -100_000_000), ACCEPTED),
-    ((1, 0, 1, -100_000_001), (5, 0)),
-    ((1, 0, 1, i32::MIN), (5, 0)),
-    ((1, 0, 1, i32::MAX), (5, 0)),
-    // Within a rule, the lower question wins.
-    ((0, 9, 9, 200_000_000), (3, 0)),
-    ((1, 9, 0, 200_000_000), (4, 0)),
-    ((1, 0, 9, 200_000_000), (4, 0)),
-];
-
+// A rule alone in a book of two events, with what it leads to.
 #[test]
 fn rules_alone(rt: HostRuntime) {
-    for ((number, first, second, limit), expected) in ALONE {
-        assert_eq!(rt; answer(2, &[rule(number, first, second, limit)]), expected);
+    for (alone, expected) in [
+        (rule(0, 0, 1, 0), Err((3, 0))),
+        (rule(1, 0, 1, 0), Ok(())),
+        (rule(65_535, 1, 1, 0), Ok(())),
+        (rule(1, 2, 1, 0), Err((4, 0))),
+        (rule(1, 1, 2, 0), Err((4, 0))),
+        (rule(1, 0, 1, 100_000_000), Ok(())),
+        (rule(1, 0, 1, 100_000_001), Err((5, 0))),
+        (rule(1, 0, 1, -100_000_000), Ok(())),
+        (rule(1, 0, 1, -100_000_001), Err((5, 0))),
+        (rule(1, 0, 1, i32::MIN), Err((5, 0))),
+        (rule(1, 0, 1, i32::MAX), Err((5, 0))),
+        // Within a rule, the lower question wins.
+        (rule(0, 9, 9, 200_000_000), Err((3, 0))),
+        (rule(1, 9, 0, 200_000_000), Err((4, 0))),
+        (rule(1, 0, 9, 200_000_000), Err((4, 0))),
+    ] {
+        assert_eq!(rt; answer(2, &[alone]), expected);
     }
 }
 
 // Numbers of three rules that are otherwise lawful, with what they lead to.
-const NUMBERS: [([u16; 3], (u8, usize)); 7] = [
-    ([7, 8, 9], ACCEPTED),
-    ([7, 7, 7], (6, 1)),
-    ([7, 8, 7], (6, 2)),
-    ([7, 8, 8], (6, 2)),
+const NUMBERS: [([u16; 3], Answer); 7] = [
+    ([7, 8, 9], Ok(())),
+    ([7, 7, 7], Err((6, 1))),
+    ([7, 8, 7], Err((6, 2))),
+    ([7, 8, 8], Err((6, 2))),
     // Numbers with one remainder by 4,096 are different numbers.
-    ([7, 4_103, 8_199], ACCEPTED),
-    ([7, 4_103, 7], (6, 2)),
+    ([7, 4_103, 8_199], Ok(())),
+    ([7, 4_103, 7], Err((6, 2))),
     // The earlier place wins, whatever its question.
-    ([7, 7, 0], (6, 1)),
+    ([7, 7, 0], Err((6, 1))),
 ];
 
 #[test]
@@ -97,28 +83,26 @@ fn numbers_are_borne_once(rt: HostRuntime) {
 }
 
 // The second rule of two, the first being 7: 0→1 0, and what it leads to.
-const SECONDS: [((u16, u16, u16, i32), (u8, usize)); 5] = [
-    ((0, 9, 9, 200_000_000), (3, 1)),
-    ((7, 9, 9, 200_000_000), (4, 1)),
-    ((7, 0, 1, 200_000_000), (5, 1)),
-    ((7, 0, 1, 0), (6, 1)),
-    ((8, 0, 1, 0), ACCEPTED),
-];
-
 #[test]
 fn first_no_wins(rt: HostRuntime) {
-    for ((number, first, second, limit), expected) in SECONDS {
-        assert_eq!(rt;
-            answer(2, &[rule(7, 0, 1, 0), rule(number, first, second, limit)]),
-            expected
-        );
+    for (second, expected) in [
+        (rule(0, 9, 9, 200_000_000), Err((3, 1))),
+        (rule(7, 9, 9, 200_000_000), Err((4, 1))),
+        (rule(7, 0, 1, 200_000_000), Err((5, 1))),
+        (rule(7, 0, 1, 0), Err((6, 1))),
+        (rule(8, 0, 1, 0), Ok(())),
+    ] {
+        assert_eq!(rt; answer(2, &[rule(7, 0, 1, 0), second]), expected);
     }
     // A fault at an earlier place is told, though a later one has a lower number.
     assert_eq!(rt;
         answer(2, &[rule(7, 0, 1, 200_000_000), rule(0, 0, 1, 0)]),
-        (5, 0)
+        Err((5, 0))
     );
-    assert_eq!(rt; answer(2, &[rule(7, 0, 9, 0), rule(0, 0, 1, 0)]), (4, 0));
+    assert_eq!(rt;
+        answer(2, &[rule(7, 0, 9, 0), rule(0, 0, 1, 0)]),
+        Err((4, 0))
+    );
 }
 
 #[test]
@@ -139,18 +123,7 @@ fn rules_by_place(rt: HostRuntime) -> Result<(), Fail> {
         rules: &rules,
     };
     assert_eq!(rt; (book.events(), book.count()), (9, 65_535));
-    let Ok(last) = book.rule(65_534) else {
-        return Err(Fail::new("no rule at place 65,534"));
-    };
-    assert_eq!(rt;
-        (last.number, last.first, last.second, last.limit),
-        (5, 6, 7, -8)
-    );
-    match book.rule(65_535) {
-        Ok(_) => Err(Fail::new("a rule past the count")),
-        Err(refusal) => {
-            assert_eq!(rt; told(refusal), (17, 0));
-            Ok(())
-        },
-    }
+    assert_eq!(rt; book.rule(65_534), Ok(rule(5, 6, 7, -8)));
+    assert_eq!(rt; book.rule(65_535).map_err(told), Err((17, 0)));
+    Ok(())
 }

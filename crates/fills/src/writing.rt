@@ -1,6 +1,6 @@
 // Packed files put together field by field.
-use books::{Book, Packed, check};
-use rules::Refusal;
+use books::{Packed, check};
+use rules::{Refusal, Rule};
 use std::alloc::{AllocError, Global};
 
 #[derive(Drop)]
@@ -22,29 +22,20 @@ impl File {
     }
 
     pub fn word(&mut self, number: u16) -> Result<(), AllocError> {
-        let [high, low] = number.to_be_bytes();
-        self.bytes.push(high)?;
-        self.bytes.push(low)?;
-        Ok(())
+        self.bytes.extend_from_slice(&number.to_be_bytes())
     }
 
-    pub fn rule(
-        &mut self,
-        number: u16,
-        first: u16,
-        second: u16,
-        limit: i32,
-    ) -> Result<(), AllocError> {
-        self.word(number)?;
-        self.word(first)?;
-        self.word(second)?;
-        self.bytes.extend_from_slice(&limit.to_be_bytes())
+    pub fn rule(&mut self, rule: Rule) -> Result<(), AllocError> {
+        self.word(rule.number)?;
+        self.word(rule.first)?;
+        self.word(rule.second)?;
+        self.bytes.extend_from_slice(&rule.limit.to_be_bytes())
     }
 
     // A name after its length byte, or as long a part of it as that can tell.
     pub fn name(&mut self, name: &[u8]) -> Result<(), AllocError> {
-        let size = name.len().min(255) as u8;
-        self.bytes.push(size)?;
+        self.bytes
+            .push(u8::try_from(name.len()).unwrap_or(u8::MAX))?;
         self.bytes.extend_from_slice(name)
     }
 
@@ -56,21 +47,25 @@ impl File {
     }
 }
 
+pub const fn rule(number: u16, first: u16, second: u16, limit: i32) -> Rule {
+    Rule {
+        number,
+        first,
+        second,
+        limit,
+    }
+}
+
+// Accepted, or refused with the number and the place of a question.
+pub type Answer = Result<(), (u8, usize)>;
+
 // Number and place of a refusal.
 pub fn told(refusal: Refusal) -> (u8, usize) {
     (refusal.number(), refusal.place())
 }
 
-// What questions 21 to 29 of a file and then 1 to 6 of its book lead to: number and place, or zeros where all are answered yes.
-pub fn answer(bytes: &[u8]) -> (u8, usize) {
-    let book = match Packed::open(bytes) {
-        Ok(book) => book,
-        Err(refusal) => return told(refusal),
-    };
-    match check(&book) {
-        Ok(()) => (0, 0),
-        Err(refusal) => told(refusal),
-    }
+// What questions 21 to 29 of a file and then 1 to 6 of its book lead to.
+pub fn answer(bytes: &[u8]) -> Answer {
+    let book = Packed::open(bytes).map_err(told)?;
+    check(&book).map_err(told)
 }
-
-pub const ACCEPTED: (u8, usize) = (0, 0);

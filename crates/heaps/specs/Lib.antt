@@ -1,2 +1,3 @@
 pub mod HeapOrder
+pub mod Trees
 pub mod Meanings

@@ -2,28 +2,21 @@
 
 #![tactic(auto)]
 
-ghost use Rattle.std.specs.Prelude.{◌≤◌, length};
-ghost use Rattle.heaps.specs.HeapOrder.{Positioned};
+ghost use Rattle.heaps.specs.Trees.{TreeOrdered};
+
+use delays::Delay;
+use trees::Tree;
 
 pub mod calls;
 pub mod entries;
+mod trees;
 
 pub use entries::Entry;
 
-// The lent entries alone, which can be passed on to be written.
+// The keys of the events that wait are in heap order.
 #[derive(Drop)]
-struct Lent<'a, K> {
-    entries: &'a mut [Entry<K>],
-}
-
-// The events at the first `len` places wait.
-// Whatever the state, each event has a place of its own; the order of the keys is kept by the calls.
-#[derive(Drop)]
-pub struct Heap<'a, K> {
-    lent: Lent<'a, K>,
-    len: usize,
+pub struct Heap<'a, K: Delay> {
+    tree: Tree<'a, K>,
     count: u32,
-    ghost small: { length lent.entries.now ≤ 65535 },
-    ghost fits: { len ≤ length lent.entries.now },
-    ghost positioned: { Positioned lent.entries.now },
+    ghost ordered: { TreeOrdered K.Delay.less tree },
 }

@@ -1,4 +1,6 @@
+mod Keyed
 mod Alone
 mod Totals
 mod Best
+mod Free
 mod Public

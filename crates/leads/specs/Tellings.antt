@@ -28,7 +28,7 @@ abbrev pub CountsTold : List Rule → ℕ → List (Option Measure) → Type 0
 CountsTold rules a measures = (v : ℕ) → CountTold rules a v (slice_index_or measures v None)
 
 -- chains by parents are shortest: to an event that a reaches each leads from a, and of the shortest chains it is one with fewest rules
-pub record LeadParents (rules : List Rule) (a : ℕ) (parents : List ℕ) : Type 0 where
+pub record LeadParents (rules : List Rule) (a : ℕ) (parents : List (Option ℕ)) : Type 0 where
   pub forest : Forest rules parents
   pub fewest : (v : ℕ) → Reaches rules a v → (places : List ℕ) (t : Traced rules parents v places) → (t.start ≡ a) × FewestRules rules a v (rules_at rules places)
 
@@ -53,5 +53,5 @@ pub record ChainShown (rules : List Rule) (a b k : ℕ) (before after : List ℕ
   pub numbers : after ≡ map (λ r. r.number) path ++ drop k before
 
 -- the k numbers written are those of a chain to b by these parents: so much is shown of every source that reaches b and has its shortest chains by them
-abbrev pub ChainTold : List Rule → List ℕ → ℕ → ℕ → List ℕ → List ℕ → Type 0
+abbrev pub ChainTold : List Rule → List (Option ℕ) → ℕ → ℕ → List ℕ → List ℕ → Type 0
 ChainTold rules parents b k before after = (source : ℕ) → LeadParents rules source parents → Reaches rules source b → ChainShown rules source b k before after

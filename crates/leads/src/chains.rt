@@ -11,7 +11,7 @@ use search::trace;
 // Where the parents are those of `lead` from a source that reaches the event, the chain leads from the source and is a shortest one with fewest rules.
 pub fn chain_to(
     rules: &[Rule],
-    parents: &[u16],
+    parents: &[Option<u16>],
     event: EventNumber,
     numbers: &mut [RuleNumber],
 ) -> usize

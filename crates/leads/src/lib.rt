@@ -4,13 +4,16 @@
 
 pub mod calls;
 pub mod chains;
+pub mod counting;
 pub mod measuring;
+pub mod priced;
 pub mod reaching;
 pub mod records;
 pub mod sources;
 pub mod weighing;
 
-pub use calls::{counted, lead};
 pub use chains::chain_to;
+pub use priced::PricedRules;
 pub use reaching::reach;
-pub use records::{Key, MAX_EDGES, MAX_NODES, Measure};
+pub use records::{Key, Measure};
+pub use settling::{MAX_EDGES, MAX_NODES};

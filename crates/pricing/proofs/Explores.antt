@@ -1,12 +1,11 @@
 -- What a search from the second event of a rule with a negative reduced limit comes to. Assumes nothing.
-use Rattle.std.proofs.Common.{◌≡◌, ℕ, ◌+◌, ◌*◌, ◌<◌, ◌≤◌, true, false, ◌≢◌, ◌⊎◌, List, [], ◌∷◌, length, replicate, ℤ, pos, ◌+ℤ◌, ◌-ℤ◌, nat_abs, ◌≤ℤ◌, ◌<ℤ◌, Some, None, sym, refl, ap, ◌∙◌, subst, inl, inr, ⊎_elim, arith}
+use Rattle.std.proofs.Common.{◌≡◌, ℕ, ◌+◌, ◌*◌, ◌<◌, ◌≤◌, true, false, ◌≢◌, ◌⊎◌, List, [], ◌∷◌, length, get_or, replicate, ℤ, pos, ◌+ℤ◌, ◌-ℤ◌, nat_abs, ◌≤ℤ◌, ◌<ℤ◌, Some, None, Option, sym, refl, ap, ◌∙◌, subst, inl, inr, ⊎_elim, arith}
 use mathlib.Core.List.Memᴰ
 use lib.Signed.{lt_z}
 use Rattle.std.proofs.lemmas.Int.{ints}
 use Rattle.std.proofs.lemmas.Bool.{cases_eq}
 use Rattle.std.proofs.lemmas.List.{get_or-set_same, get_or-set_other, get_or-replicate, length-set, length-replicate}
-use Rattle.delays.specs.declared.times.Millis.{Millis}
-use Rattle.delays.specs.Numbers.{millis, millis_zero}
+use Rattle.delays.specs.Numbers.{Millis, amount, amount_zero}
 use Rattle.delays.specs.Exactness.{exact_size}
 use Rattle.rules.specs.declared.records.Rule.{Rule}
 use Rattle.rules.specs.Meets.{at, lead, Meets}
@@ -19,15 +18,27 @@ use Rattle.rules.proofs.Among.{on_chain, chain_of}
 use Rattle.rules.proofs.Lengths.{at_most}
 use Rattle.rules.proofs.Latest.{latest_by_chains}
 use Rattle.search.specs.Networks.{Labelling, label_of, events_of}
-use Rattle.search.specs.Forests.{Traced, rules_at}
+use Rattle.search.specs.Forests.{Forest, Traced, rules_at}
 use Rattle.search.specs.Searches.{Within, Exact, Searched}
 use Rattle.search.specs.Beginnings.{alone}
 use Rattle.search.proofs.Keys.{same}
 use Rattle.search.proofs.Routes.{route_along}
-use Rattle.settling.specs.Sizes.{Sized, Feasible}
+use Rattle.settling.specs.Sizes.{limit_size, Limited, Sized, Feasible}
 use Rattle.settling.specs.Weights.{Weighed, Raised, raised}
+use Rattle.pricing.specs.Repairs.{fallen}
 use Rattle.settling.proofs.Reductions.{net, not_below, labelled_below, weight_size, weight_within, reduced_within, route_chain, labels_meet, labels_attained}
-use Rattle.pricing.specs.Repairs.{fallen, Explored}
+
+-- the label of the events that do not wait
+abbrev pub resting : Option Millis
+resting = Some amount_zero
+
+-- what a search from a rule's second event leaves. Where the label of its first event is not below 0, prices more by labels meet the rule too, and
+-- where it is, the chain by parents to that event closes a negative ring with the rule
+pub record Explored (by : ℤ) (rules : List Rule) (rule : Rule) (prices : List ℤ) (labels : List (Option Millis)) (parents : List (Option ℕ)) : Type 0 where
+  pub exact : (v : ℕ) (k : Millis) → get_or labels v None ≡ Some k → nat_abs k.0 ≤ exact_size
+  pub forest : Forest rules parents
+  pub mends : fallen (get_or labels rule.first None) ≡ false → (new : List ℤ) → Raised prices labels new → Latest (length prices) (at prices) (loosened by (rule ∷ rules)) (at new)
+  pub rings : fallen (get_or labels rule.first None) ≡ true → (places : List ℕ) → Traced rules parents rule.first places → Negative (loosened by (rule ∷ rules)) (loosened by (rule ∷ rules_at rules places))
 
 pub is_below : (a b : ℤ) → lt_z a b ≡ true → a <ℤ b
 is_below a b h = grind (arith, ints)
@@ -37,21 +48,14 @@ stops_loosened : (by : ℤ) (path : List Rule) → stops (loosened by path) ≡ 
 stops_loosened by [] = refl
 stops_loosened by (r ∷ path) = ap (λ vs. r.second ∷ vs) (stops_loosened by path)
 
-pub sized_rest : (by : ℤ) (rule : Rule) (rules : List Rule) (prices : List ℤ) → Sized by (rule ∷ rules) prices → Sized by rules prices
-sized_rest by rule rules prices s = record {
-  few_events = s.few_events;
-  few_rules = let h = s.few_rules in omega arith;
-  events = λ r m. s.events r (Memᴰ.tail m);
-  limits = λ r m. s.limits r (Memᴰ.tail m);
-  loosening = s.loosening;
-  prices_within = s.prices_within;
-}
+pub sized_rest : (rule : Rule) (rules : List Rule) (prices : List ℤ) → Sized (rule ∷ rules) prices → Sized rules prices
+sized_rest rule rules prices s = record { few_events = s.few_events; events = λ r m. s.events r (Memᴰ.tail m); prices_within = s.prices_within }
 
 module _ (by : ℤ) (rules : List Rule) (rule : Rule) (prices : List ℤ) (weights : List Millis) (weighed : Weighed by rules prices weights)
-    (sized : Sized by (rule ∷ rules) prices) (feasible : Feasible by rules prices) (key : Millis) (is_key : key ≡ millis (reduced_limit (at prices) (loosen by rule))) (negative : key.0 <ℤ pos 0)
-    (n capacity : ℕ) (long : n ≡ length prices) (start : Labelling Millis) (begun : start ≡ alone n capacity rule.second key (Some millis_zero)) where
-  small : Sized by rules prices
-  small = sized_rest by rule rules prices sized
+    (limited : Limited by rules) (limit : nat_abs rule.limit ≤ limit_size) (sized : Sized (rule ∷ rules) prices) (feasible : Feasible by rules prices) (key : Millis) (is_key : key ≡ amount (reduced_limit (at prices) (loosen by rule))) (negative : key.0 <ℤ pos 0)
+    (n capacity : ℕ) (long : n ≡ length prices) (start : Labelling Millis) (begun : start ≡ alone n capacity rule.second key resting) where
+  small : Sized rules prices
+  small = sized_rest rule rules prices sized
 
   first_in : rule.first < length prices
   first_in = (sized.events rule (Memᴰ.head refl)).0
@@ -63,13 +67,13 @@ module _ (by : ℤ) (rules : List Rule) (rule : Rule) (prices : List ℤ) (weigh
   reduced = ap (λ (m : Millis). m.0) is_key
 
   here : label_of start rule.second ≡ Some key
-  here = ap (λ (x : Labelling Millis). label_of x rule.second) begun ∙ get_or-set_same (replicate n (Some millis_zero)) rule.second (Some key) None (let l = length-replicate n (Some millis_zero) in let h = second_in in omega arith)
+  here = ap (λ (x : Labelling Millis). label_of x rule.second) begun ∙ get_or-set_same (replicate n resting) rule.second (Some key) None (let l = length-replicate n resting in let h = second_in in omega arith)
 
-  other : (v : ℕ) → v < length prices → v ≢ rule.second → label_of start v ≡ Some millis_zero
-  other v h ne = ap (λ (x : Labelling Millis). label_of x v) begun ∙ get_or-set_other (replicate n (Some millis_zero)) rule.second v (Some key) None ne ∙ get_or-replicate n v (Some millis_zero) None (omega arith)
+  other : (v : ℕ) → v < length prices → v ≢ rule.second → label_of start v ≡ Some amount_zero
+  other v h ne = ap (λ (x : Labelling Millis). label_of x v) begun ∙ get_or-set_other (replicate n resting) rule.second v (Some key) None ne ∙ get_or-replicate n v resting None (omega arith)
 
   pub start_events : events_of start ≡ length prices
-  start_events = ap (λ (x : Labelling Millis). events_of x) begun ∙ length-set (replicate n (Some millis_zero)) rule.second (Some key) ∙ length-replicate n (Some millis_zero) ∙ long
+  start_events = ap (λ (x : Labelling Millis). events_of x) begun ∙ length-set (replicate n resting) rule.second (Some key) ∙ length-replicate n resting ∙ long
 
   -- what a label at the start is
   start_of : (v : ℕ) (k : Millis) → label_of start v ≡ Some k → (v < length prices) × (((v ≡ rule.second) × (k.0 ≡ key.0)) ⊎ (k.0 ≡ pos 0))
@@ -84,12 +88,12 @@ module _ (by : ℤ) (rules : List Rule) (rule : Rule) (prices : List ℤ) (weigh
 
   key_within : nat_abs key.0 ≤ weight_size
   key_within = subst (λ (m : Millis). nat_abs m.0 ≤ weight_size) (sym is_key)
-      (reduced_within rule.limit by (at prices rule.first) (at prices rule.second) (sized.limits rule (Memᴰ.head refl)) sized.loosening (sized.prices_within _) (sized.prices_within _))
+      (reduced_within rule.limit by (at prices rule.first) (at prices rule.second) limit limited.loosening (sized.prices_within _) (sized.prices_within _))
 
   within : Within (net by rules prices weights weighed) start weight_size weight_size
   within = record {
     labels = λ v k e. ⊎_elim (λ q. let z = q.1 in let w = key_within in omega (arith, ints)) (λ z. omega (arith, ints)) (start_of v k e).1;
-    weights = weight_within by rules prices weights weighed small;
+    weights = weight_within by rules prices weights weighed limited small;
   }
 
   pub start_exact : Exact (net by rules prices weights weighed) start
@@ -113,7 +117,7 @@ module _ (by : ℤ) (rules : List Rule) (rule : Rule) (prices : List ℤ) (weigh
     low : (v : ℕ) → v < length prices → (j : Millis) × (label_of s v ≡ Some j) × (j.0 ≤ℤ pos 0)
     low v h = ⊎_elim
         (λ q. let f = lowered v key (ap (label_of start) q ∙ here) in let b = f.2 in (f.0, f.1, omega (arith, ints)))
-        (λ ne. let f = lowered v millis_zero (other v h ne) in (f.0, f.1, f.2))
+        (λ ne. let f = lowered v amount_zero (other v h ne) in (f.0, f.1, f.2))
         (cases_eq v rule.second)
 
     known : (v : ℕ) → v < length prices → (j : Millis) × (label_of s v ≡ Some j)

@@ -7,24 +7,13 @@ use Rattle.std.proofs.lemmas.List.{get_or-set_same, get_or-set_other}
 use Rattle.rules.specs.declared.records.Rule.{Rule}
 use Rattle.rules.specs.Meets.{◌∈◌, Times, at, EventsBelow}
 use Rattle.rules.specs.Chains.{Chain, sum}
-use Rattle.rules.specs.Places.{no_rule, rule_at}
 use Rattle.rules.specs.Settled.{Latest}
 use Rattle.rules.specs.Prices.{reduced_limit, loosen, loosened}
-use Rattle.rules.proofs.Members.{get_or_in}
 use Rattle.rules.proofs.Along.{no_negative_ring}
 use Rattle.rules.proofs.Decided.{latest_exists, shortened}
 use Rattle.rules.proofs.Latest.{latest_alike}
 use Rattle.settling.specs.Sizes.{Sized}
 use Rattle.pricing.specs.Starts.{start_size, Small, Lowered}
-
-pub lowered_none : (by : ℤ) (rules : List Rule) (prices : List ℤ) → Lowered by rules prices prices
-lowered_none by rules prices = record { early = λ v h. omega (arith, ints); kept = λ s met before. before }
-
-pub lowered_on : (by : ℤ) (rules : List Rule) (old mid new : List ℤ) → length mid ≡ length old → Lowered by rules old mid → Lowered by rules mid new → Lowered by rules old new
-lowered_on by rules old mid new e a b = record {
-  early = λ v h. let x = a.early v h in let y = b.early v (omega arith) in omega (arith, ints);
-  kept = λ s met before v h. b.kept s met (λ u k. a.kept s met before u (omega arith)) v (omega arith);
-}
 
 -- the latest times under lowered prices are those under the old ones
 pub latest_lowered : (by : ℤ) (rules : List Rule) (old mid : List ℤ) (t : Times) → length mid ≡ length old → Lowered by rules old mid → Latest (length mid) (at mid) (loosened by rules) t → Latest (length old) (at old) (loosened by rules) t
@@ -34,20 +23,14 @@ latest_lowered by rules old mid t e a l = record {
   late = λ s met before v h. l.late s met (λ u k. a.kept s met before u (omega arith)) v (omega arith);
 }
 
-pub sized_again : (by : ℤ) (rules : List Rule) (old new : List ℤ) → Sized by rules old → length new ≡ length old → Small new → Sized by rules new
-sized_again by rules old new s e small = record {
+pub sized_again : (rules : List Rule) (old new : List ℤ) → Sized rules old → length new ≡ length old → Small new → Sized rules new
+sized_again rules old new s e small = record {
   few_events = let h = s.few_events in omega arith;
-  few_rules = s.few_rules;
   events = λ r m. let h = s.events r m in (omega (arith, h.0, e), omega (arith, h.1, e));
-  limits = s.limits;
-  loosening = s.loosening;
   prices_within = λ v. let h = small v in omega arith;
 }
 
-module _ (by : ℤ) (rules : List Rule) (prices : List ℤ) (place : ℕ) (h : place < length rules) (price : ℤ) where
-  abbrev rule : Rule
-  rule = rule_at rules place
-
+module _ (by : ℤ) (rules : List Rule) (prices : List ℤ) (rule : Rule) (m : rule ∈ rules) (price : ℤ) where
   abbrev new : List ℤ
   new = set prices rule.second price
 
@@ -62,7 +45,7 @@ module _ (by : ℤ) (rules : List Rule) (prices : List ℤ) (place : ℕ) (h : p
         (λ e.
         let a : at new v ≡ price = ap (at new) e ∙ here in
         let b : s v ≡ s rule.second = ap s e in
-        let c = met (loosen by rule) (Memᴰ.map (loosen by) (get_or_in rules place no_rule h)) in
+        let c = met (loosen by rule) (Memᴰ.map (loosen by) m) in
         let d = before rule.first first in
         omega (arith, ints))
         (λ ne. let a : at new v ≡ at prices v = get_or-set_other prices rule.second v price (pos 0) ne in let b = before v k in omega (arith, ints))

@@ -1,10 +1,10 @@
 -- Prices and rings for one rule more. Assumes nothing.
-use Rattle.std.proofs.Common.{◌≡◌, ℕ, ◌+◌, ◌<◌, true, false, List, [], ◌∷◌, ◌++◌, map, length, get_or, take, drop, ℤ, pos, ◌≤ℤ◌, Some, None, Option, sym, refl, ap, ◌∙◌, subst, ⊎_elim, arith}
+use Rattle.std.proofs.Common.{◌≡◌, ℕ, ◌+◌, ◌<◌, ◌≤◌, true, false, List, [], ◌∷◌, ◌++◌, map, length, get_or, take, drop, ℤ, pos, ◌≤ℤ◌, None, Ok, Err, Result, Option, sym, refl, ap, ◌∙◌, subst, ⊎_elim, arith}
 use mathlib.Core.List.Memᴰ
 use lib.Signed.{lt_z}
 use Rattle.std.proofs.lemmas.Int.{ints}
-use Rattle.std.proofs.lemmas.List.{take_more, length-take-le, length-map, take-append-drop}
-use Rattle.delays.specs.declared.times.Millis.{Millis}
+use Rattle.std.proofs.lemmas.List.{take_more, length-map, length-take-le, take-append-drop}
+use Rattle.delays.specs.Numbers.{Millis}
 use Rattle.rules.specs.declared.records.Rule.{Rule}
 use Rattle.rules.specs.Meets.{◌∈◌, at, lead, Meets}
 use Rattle.rules.specs.Places.{no_rule, rule_at}
@@ -13,16 +13,18 @@ use Rattle.rules.specs.Prices.{reduced_limit, loosen, loosened}
 use Rattle.rules.proofs.Members.{get_or_in}
 use Rattle.rules.proofs.Among.{on_chain, negative_of}
 use Rattle.search.specs.Forests.{rules_at}
-use Rattle.settling.specs.Sizes.{Sized, Feasible}
+use Rattle.settling.specs.Sizes.{Limited, Sized, Feasible}
 use Rattle.settling.proofs.Reductions.{not_below}
-use Rattle.pricing.specs.Repairs.{Shown, Repaired, fallen, Explored, Closed}
+use Rattle.pricing.specs.declared.rings.Ring.{Ring}
+use Rattle.pricing.specs.Repairs.{Shown, Repaired, Closed, fallen}
+use Rattle.pricing.proofs.Explores.{Explored}
 
 numbers_loosened : (by : ℤ) (path : List Rule) → map (λ r. r.number) (loosened by path) ≡ map (λ r. r.number) path
 numbers_loosened by [] = refl
 numbers_loosened by (r ∷ path) = ap (λ ns. r.number ∷ ns) (numbers_loosened by path)
 
 -- the ring that a search finds, as it is written
-pub shown : (by : ℤ) (rules : List Rule) (rule : Rule) (prices : List ℤ) (labels : List (Option Millis)) (parents : List ℕ) (count : ℕ) (before after : List ℕ)
+pub shown : (by : ℤ) (rules : List Rule) (rule : Rule) (prices : List ℤ) (labels : List (Option Millis)) (parents : List (Option ℕ)) (count : ℕ) (before after : List ℕ)
     → Explored by rules rule prices labels parents → fallen (get_or labels rule.first None) ≡ true → Closed rules rule parents count before after → Shown (loosened by (rule ∷ rules)) count before after
 shown by rules rule prices labels parents count before after e fell closed = record {
   path = loosened by (rule ∷ rules_at rules closed.places);
@@ -35,8 +37,8 @@ pub among_loosened : (by : ℤ) (A B : List Rule) → ((r : Rule) → r ∈ A �
 among_loosened by A B to r m = let (q, i, e) = Memᴰ.of_map (loosen by) A m in subst (λ (x : Rule). x ∈ loosened by B) e (Memᴰ.map (loosen by) (to q i))
 
 -- what is repaired for some rules is repaired for the same ones in another order
-pub repaired_alike : (by : ℤ) (A B : List Rule) (old new : List ℤ) (before after : List ℕ) (r : Option ℕ) → ((r : Rule) → r ∈ A → r ∈ B) → ((r : Rule) → r ∈ B → r ∈ A) → Repaired by A old new before after r → Repaired by B old new before after r
-repaired_alike by A B old new before after None to from (l, e) = (
+pub repaired_alike : {U : Type 0} (by : ℤ) (A B : List Rule) (old new : List ℤ) (before after : List ℕ) (r : Result U Ring) → ((r : Rule) → r ∈ A → r ∈ B) → ((r : Rule) → r ∈ B → r ∈ A) → Repaired by A old new before after r → Repaired by B old new before after r
+repaired_alike by A B old new before after (Ok done) to from (l, e) = (
   record {
     meets = λ r m. l.meets r (among_loosened by B A from r m);
     early = l.early;
@@ -44,7 +46,7 @@ repaired_alike by A B old new before after None to from (l, e) = (
   },
   e,
 )
-repaired_alike by A B old new before after (Some count) to from (s, e) = (
+repaired_alike by A B old new before after (Err ring) to from (s, e) = (
   record {
     path = s.path;
     negative = negative_of (loosened by A) (loosened by B) s.path s.negative (λ r m. among_loosened by A B to r (on_chain (loosened by A) _ _ s.path s.negative.ring.chain r m).0);
@@ -57,6 +59,14 @@ repaired_alike by A B old new before after (Some count) to from (s, e) = (
 pub take_in : (rules : List Rule) (place : ℕ) (r : Rule) → r ∈ take place rules → r ∈ rules
 take_in rules place r m = subst (λ (rs : List Rule). r ∈ rs) (take-append-drop place rules) (Memᴰ.append_left (drop place rules) m)
 
+-- the rules before a place are no more, and no larger
+pub limited_before : (by : ℤ) (rules : List Rule) (place : ℕ) → place ≤ length rules → Limited by rules → Limited by (take place rules)
+limited_before by rules place h l = record {
+  few_rules = let few = l.few_rules in omega (arith, length-take-le place rules h);
+  limits = λ r m. l.limits r (take_in rules place r m);
+  loosening = l.loosening;
+}
+
 module _ (rules : List Rule) (place : ℕ) (h : place < length rules) where
   more : take (place + 1) rules ≡ take place rules ++ rule_at rules place ∷ []
   more = take_more rules place no_rule h
@@ -68,13 +78,10 @@ module _ (rules : List Rule) (place : ℕ) (h : place < length rules) where
   pub next_out : (r : Rule) → r ∈ take (place + 1) rules → r ∈ (rule_at rules place ∷ take place rules)
   next_out r m = ⊎_elim (λ k. Memᴰ.tail k) (λ p. Memᴰ.head (Memᴰ.eq_of_singleton p)) (Memᴰ.append_cases (take place rules) (subst (λ (rs : List Rule). r ∈ rs) more m))
 
-  pub sized_next : (by : ℤ) (prices : List ℤ) → Sized by rules prices → Sized by (rule_at rules place ∷ take place rules) prices
-  sized_next by prices s = record {
+  pub sized_next : (prices : List ℤ) → Sized rules prices → Sized (rule_at rules place ∷ take place rules) prices
+  sized_next prices s = record {
     few_events = s.few_events;
-    few_rules = let l = length-take-le place rules (omega arith) in let f = s.few_rules in omega arith;
     events = λ r m. s.events r (inside r m);
-    limits = λ r m. s.limits r (inside r m);
-    loosening = s.loosening;
     prices_within = s.prices_within;
   }
     where

@@ -1,17 +1,18 @@
 -- Prices repaired for rule after rule. Assumes nothing.
-use Rattle.std.proofs.Common.{◌≡◌, ℕ, ◌+◌, ◌<◌, ◌≤◌, List, length, take, ℤ, pos, ◌+ℤ◌, nat_abs, Some, None, Option, ap, ◌∙◌, subst, ⊎_elim, arith}
+use Rattle.std.proofs.Common.{◌≡◌, ℕ, ◌+◌, ◌<◌, ◌≤◌, List, length, take, ℤ, pos, ◌+ℤ◌, nat_abs, None, Ok, Err, Result, Option, ap, ◌∙◌, subst, ⊎_elim, arith}
 use mathlib.Core.List.Memᴰ
 use Rattle.std.proofs.lemmas.Int.{ints}
 use Rattle.std.proofs.lemmas.Bool.{cases_lt}
 use Rattle.std.proofs.lemmas.List.{get_or_past, length-replicate}
-use Rattle.delays.specs.declared.times.Millis.{Millis}
+use Rattle.delays.specs.Numbers.{Millis}
 use Rattle.queues.specs.Contents.{Contents, capacity_of, empty}
 use Rattle.rules.specs.declared.records.Rule.{Rule}
 use Rattle.rules.specs.Meets.{◌∈◌, at, EventsBelow}
 use Rattle.rules.specs.Settled.{Latest}
 use Rattle.rules.specs.Prices.{loosen, loosened}
 use Rattle.rules.proofs.Among.{on_chain, negative_of}
-use Rattle.settling.specs.Sizes.{limit_size, loosening_size, Sized}
+use Rattle.settling.specs.Sizes.{limit_size, loosening_size, Limited, Sized}
+use Rattle.pricing.specs.declared.rings.Ring.{Ring}
 use Rattle.pricing.specs.Repairs.{Shown}
 use Rattle.pricing.specs.Starts.{Small, Lowered, Priced}
 use Rattle.pricing.proofs.Mends.{among_loosened, take_in, next_in}
@@ -20,9 +21,6 @@ use Rattle.pricing.proofs.Lowers.{step_size, latest_sized, latest_lowered}
 -- an empty queue has the capacity that it was emptied with
 pub emptied : (q : Contents Millis) (capacity : ℕ) → q ≡ empty capacity → capacity_of q ≡ capacity
 emptied q capacity e = ap (λ (x : Contents Millis). capacity_of x) e ∙ length-replicate {A = Option Millis} capacity None
-
-pub latest_none : (by : ℤ) (rules : List Rule) (prices : List ℤ) → Latest (length prices) (at prices) (loosened by (take 0 rules)) (at prices)
-latest_none by rules prices = record { meets = λ r m. absurd (Memᴰ.not-nil m); early = λ v h. omega (arith, ints); late = λ s met before. before }
 
 pub latest_on : (by : ℤ) (rules : List Rule) (old mid new : List ℤ) (place : ℕ) → place < length rules → length mid ≡ length old → Latest (length old) (at old) (loosened by (take place rules)) (at mid) → Latest (length mid) (at mid) (loosened by (take (place + 1) rules)) (at new) → Latest (length old) (at old) (loosened by (take (place + 1) rules)) (at new)
 latest_on by rules old mid new place lt e a b = record {
@@ -34,7 +32,7 @@ latest_on by rules old mid new place lt e a b = record {
 loosened_within : (l by : ℤ) → nat_abs l ≤ limit_size → nat_abs by ≤ loosening_size → nat_abs (l +ℤ by) ≤ step_size
 loosened_within l by h k = omega (arith, ints)
 
-module _ (by : ℤ) (rules : List Rule) (old new : List ℤ) (place : ℕ) (sized : Sized by rules old) (small : Small old) (e : length new ≡ length old)
+module _ (by : ℤ) (rules : List Rule) (old new : List ℤ) (place : ℕ) (limited : Limited by rules) (sized : Sized rules old) (small : Small old) (e : length new ≡ length old)
     (latest : Latest (length old) (at old) (loosened by (take place rules)) (at new)) where
   events : EventsBelow (length old) (loosened by (take place rules))
   events r m =
@@ -44,16 +42,13 @@ module _ (by : ℤ) (rules : List Rule) (old new : List ℤ) (place : ℕ) (size
   limits : (r : Rule) → r ∈ loosened by (take place rules) → nat_abs r.limit ≤ step_size
   limits r m =
       let (q, i, is) = Memᴰ.of_map (loosen by) (take place rules) m in
-      subst (λ (x : Rule). nat_abs x.limit ≤ step_size) is (loosened_within q.limit by (sized.limits q (take_in rules place q i)) sized.loosening)
+      subst (λ (x : Rule). nat_abs x.limit ≤ step_size) is (loosened_within q.limit by (limited.limits q (take_in rules place q i)) limited.loosening)
 
   -- prices stay small enough for a search
-  pub sized_after : Sized by rules new
+  pub sized_after : Sized rules new
   sized_after = record {
     few_events = let h = sized.few_events in omega arith;
-    few_rules = sized.few_rules;
     events = λ r m. let h = sized.events r m in (omega (arith, h.0, e), omega (arith, h.1, e));
-    limits = sized.limits;
-    loosening = sized.loosening;
     prices_within = λ v. ⊎_elim
         (λ h. let b = latest_sized (length old) (at old) (at new) (loosened by (take place rules)) events limits small latest v h in let few = sized.few_events in omega arith)
         (λ h. let z = get_or_past new v (pos 0) (omega arith) in omega (arith, ints))
@@ -69,6 +64,6 @@ shown_all by rules place count before after s = record {
 }
 
 -- prices for all rules from lowered ones are prices from the old ones
-pub priced_lowered : (by : ℤ) (rules : List Rule) (old mid new : List ℤ) (before after : List ℕ) (r : Option ℕ) → length mid ≡ length old → Lowered by rules old mid → Priced by rules mid new before after r → Priced by rules old new before after r
-priced_lowered by rules old mid new before after None e lowered (latest, sized, same) = (latest_lowered by rules old mid (at new) e lowered latest, sized, same)
-priced_lowered by rules old mid new before after (Some count) e lowered shown = shown
+pub priced_lowered : {U : Type 0} (by : ℤ) (rules : List Rule) (old mid new : List ℤ) (before after : List ℕ) (r : Result U Ring) → length mid ≡ length old → Lowered by rules old mid → Priced by rules mid new before after r → Priced by rules old new before after r
+priced_lowered by rules old mid new before after (Ok done) e lowered (latest, sized, same) = (latest_lowered by rules old mid (at new) e lowered latest, sized, same)
+priced_lowered by rules old mid new before after (Err ring) e lowered shown = shown

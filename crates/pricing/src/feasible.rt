@@ -6,57 +6,50 @@ ghost use Rattle.pricing.specs.Starts.{Small, Priced};
 
 use crate::relaxing::relax_rounds;
 use crate::repairing::repair;
+use crate::rings::Ring;
 use delays::Millis;
 use queues::Queue;
-use rules::{Rule, RuleNumber};
+use rules::RuleNumber;
+use settling::Loosened;
 
 // Repairs the prices for each rule in turn. The queue is empty.
 fn repair_all<Q: Queue<Millis>>(
-    rules: &[Rule],
+    loose: &Loosened,
     prices: &mut [i64],
-    by: Millis,
     queue: &mut Q,
     ring: &mut [RuleNumber],
-) -> Option<usize>
-    requires sized { Sized by.0 rules.now prices.old }
+) -> Result<(), Ring>
+    requires sized { Sized loose.now.rules.now prices.old }
     requires small { Small prices.old }
-    requires lawful { Q.Queue.lawful queue.old }
     requires empty { Q.Queue.contents queue.old ≡ empty (capacity_of (Q.Queue.contents queue.old)) }
     requires capacity { length prices.old ≤ capacity_of (Q.Queue.contents queue.old) }
     requires ring { length prices.old ≤ length ring.old }
-    ensures priced { Priced by.0 rules.now prices.old prices.new ring.old ring.new result }
-    ensures lawful { Q.Queue.lawful queue.new }
+    ensures priced { Priced loose.now.by.0 loose.now.rules.now prices.old prices.new ring.old ring.new result }
     ensures queue { Q.Queue.contents queue.new ≡ empty (capacity_of (Q.Queue.contents queue.old)) }
 {
-    for place in 0..rules.len() {
-        match repair(rules, place, prices, by, queue, ring) {
-            None => {}
-            Some(count) => {
-                return Some(count);
-            }
-        }
+    // By place: a rule is repaired for beside those before it.
+    for place in 0..loose.rules.len() {
+        repair(loose, place, prices, queue, ring)?;
     }
-    None
+    Ok(())
 }
 
-// Lowers any prices, as little as need be, until they are feasible for the rules, each loosened by so much. Where no prices are, writes the numbers of the
-// rules of a negative ring, in order, and answers how many; the prices are lowered in part then. The queue may be in any state, and is left empty.
+// Lowers any prices, as little as need be, until they are feasible for the loosened rules. Where no prices are, answers a negative ring, and writes the
+// numbers of its rules, in order; the prices are lowered in part then. The queue may be in any state, and is left empty.
 pub fn prices<Q: Queue<Millis>>(
-    rules: &[Rule],
+    loose: &Loosened,
     prices: &mut [i64],
-    by: Millis,
     queue: &mut Q,
     ring: &mut [RuleNumber],
-) -> Option<usize>
-    requires sized { Sized by.0 rules.now prices.old }
+) -> Result<(), Ring>
+    requires sized { Sized loose.now.rules.now prices.old }
     requires small { Small prices.old }
     requires capacity { length prices.old ≤ capacity_of (Q.Queue.contents queue.old) }
     requires ring { length prices.old ≤ length ring.old }
-    ensures priced { Priced by.0 rules.now prices.old prices.new ring.old ring.new result }
-    ensures lawful { Q.Queue.lawful queue.new }
+    ensures priced { Priced loose.now.by.0 loose.now.rules.now prices.old prices.new ring.old ring.new result }
     ensures queue { Q.Queue.contents queue.new ≡ empty (capacity_of (Q.Queue.contents queue.old)) }
 {
-    relax_rounds(rules, prices, by);
+    relax_rounds(loose, prices);
     queue.clear();
-    repair_all(rules, prices, by, queue, ring)
+    repair_all(loose, prices, queue, ring)
 }

@@ -11,14 +11,15 @@ use std::{env, io};
 
 type Key = Pair<Millis, Count>;
 
+// The same line makes numbers in the tests and in the program that compares queues: it is too little for a crate.
 fn next(seed: u32) -> u32 {
     seed.wrapping_mul(1664525).wrapping_add(1013904223)
 }
 
 fn key(seed: u32, event: u16) -> Key {
     Pair {
-        first: Millis((seed >> 12) as i64),
-        second: Count(event as i64),
+        first: Millis::of((seed >> 12) as i64),
+        second: Count::of(event as i64),
     }
 }
 
@@ -40,8 +41,8 @@ fn offer_round<Q: Queue<Key>>(queue: &mut Q, events: u16, start: u32) -> u32 {
 fn take_round<Q: Queue<Key>>(queue: &mut Q, events: u16, start: u32) -> u32 {
     let mut sum = start;
     for _ in 0..events {
-        if let Some(taken) = queue.take() {
-            sum = sum.wrapping_mul(31).wrapping_add(taken.0 as u32);
+        if let Some((event, _)) = queue.take() {
+            sum = sum.wrapping_mul(31).wrapping_add(event as u32);
         }
     }
     sum
@@ -57,29 +58,27 @@ fn rounds<Q: Queue<Key>>(queue: &mut Q, events: u16, times: u32) -> u32 {
     sum
 }
 
-// Nanoseconds for an event: two offers and a taking.
-fn per_event(nanos: u128, events: u16, times: u32) -> u128 {
+// The checksum of the rounds, and the nanoseconds for an event: two offers and a taking.
+fn measured<Q: Queue<Key>>(
+    rt: &HostRuntime,
+    queue: &mut Q,
+    events: u16,
+    times: u32,
+) -> io::Result<(u32, u128)> {
+    let start = Instant::now(rt)?;
+    let sum = rounds(queue, events, times);
+    let nanos = start.elapsed(rt)?.as_nanos();
     let steps = (events as u128).saturating_mul(times as u128);
-    if steps == 0 { 0 } else { nanos / steps }
+    Ok((sum, nanos.checked_div(steps).unwrap_or(0)))
 }
 
 fn compare(rt: &HostRuntime, events: u16, times: u32, timed: bool) -> io::Result<()> {
     let mut entries = [Entry::new(); 1024];
     let mut slots = [Slot::new(); 1024];
     let n = (events as usize).min(1024);
-    let all = &mut entries[..];
-    let mut heap = Heap::new(&mut all[0..n]);
-    let all = &mut slots[..];
-    let mut table = Table::new(&mut all[0..n]);
-    let start = Instant::now(rt)?;
-    let by_heap = rounds(&mut heap, events, times);
-    let heap_nanos = start.elapsed(rt)?.as_nanos();
-    let start = Instant::now(rt)?;
-    let by_table = rounds(&mut table, events, times);
-    let table_nanos = start.elapsed(rt)?.as_nanos();
+    let (by_heap, a) = measured(rt, &mut Heap::new(&mut entries[..n]), events, times)?;
+    let (by_table, b) = measured(rt, &mut Table::new(&mut slots[..n]), events, times)?;
     if timed {
-        let a = per_event(heap_nanos, events, times);
-        let b = per_event(table_nanos, events, times);
         eprintln!(rt; "{events} events: heap {a} ns, table {b} ns for two offers and a taking")?;
     }
     let alike = by_heap == by_table;
@@ -89,7 +88,8 @@ fn compare(rt: &HostRuntime, events: u16, times: u32, timed: bool) -> io::Result
 fn main(rt: HostRuntime) -> io::Result<()> {
     let timed = env::args(&rt)?.count() > 1;
     let times = if timed { 200 } else { 2 };
-    compare(&rt, 64, times, timed)?;
-    compare(&rt, 256, times, timed)?;
-    compare(&rt, 1024, times, timed)
+    for events in [64, 256, 1024] {
+        compare(&rt, events, times, timed)?;
+    }
+    Ok(())
 }

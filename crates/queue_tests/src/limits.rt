@@ -6,30 +6,16 @@ use std::process::Abort;
 use std::test::Fail;
 
 fn refused<Q: Queue<Millis>>(rt: &impl Abort, queue: &mut Q, event: u16) -> Result<(), Fail> {
-    match queue.offer(event, Millis(5)) {
-        Ok(()) => Err(Fail::new("accepted")),
-        Err(refusal) => {
-            assert_eq!(rt; refusal.number(), 16);
-            assert_eq!(rt; refusal.place(), 0);
-            Ok(())
-        }
-    }
+    let Err(refusal) = queue.offer(event, Millis::of(5)) else {
+        return Err(Fail::new("accepted"));
+    };
+    assert_eq!(rt; refusal.number(), 16);
+    assert_eq!(rt; refusal.place(), 0);
+    Ok(())
 }
 
-fn answers<Q: Queue<Millis>>(
-    rt: &impl Abort,
-    queue: &mut Q,
-    event: u16,
-    millis: i64,
-) -> Result<(), Fail> {
-    match queue.take() {
-        None => Err(Fail::new("nothing waits")),
-        Some(taken) => {
-            assert_eq!(rt; taken.0, event);
-            assert_eq!(rt; taken.1.0, millis);
-            Ok(())
-        }
-    }
+fn answers<Q: Queue<Millis>>(rt: &impl Abort, queue: &mut Q, event: u16, millis: i64) {
+    assert_eq!(rt; queue.take(), Some((event, Millis::of(millis))));
 }
 
 fn no_events<Q: Queue<Millis>>(rt: &impl Abort, queue: &mut Q) -> Result<(), Fail> {
@@ -51,14 +37,14 @@ fn capacity_none(rt: HostRuntime) -> Result<(), Fail> {
 fn one_event<Q: Queue<Millis>>(rt: &impl Abort, queue: &mut Q) -> Result<(), Fail> {
     assert_eq!(rt; queue.capacity(), 1);
     refused(rt, queue, 1)?;
-    assert!(rt; queue.offer(0, Millis(i64::MAX)).is_ok());
-    assert!(rt; queue.offer(0, Millis(i64::MIN)).is_ok());
-    assert!(rt; queue.offer(0, Millis(3)).is_ok());
-    answers(rt, queue, 0, i64::MIN)?;
+    assert!(rt; queue.offer(0, Millis::of(i64::MAX)).is_ok());
+    assert!(rt; queue.offer(0, Millis::of(i64::MIN)).is_ok());
+    assert!(rt; queue.offer(0, Millis::of(3)).is_ok());
+    answers(rt, queue, 0, i64::MIN);
     assert_eq!(rt; queue.count(), 1);
     assert!(rt; queue.take().is_none());
     assert_eq!(rt; queue.count(), 1);
-    assert!(rt; queue.offer(0, Millis(4)).is_ok());
+    assert!(rt; queue.offer(0, Millis::of(4)).is_ok());
     queue.clear();
     assert!(rt; queue.take().is_none());
     assert_eq!(rt; queue.count(), 0);
@@ -76,10 +62,11 @@ fn capacity_one(rt: HostRuntime) -> Result<(), Fail> {
 fn most_events<Q: Queue<Millis>>(rt: &impl Abort, queue: &mut Q) -> Result<(), Fail> {
     assert_eq!(rt; queue.capacity(), 65535);
     refused(rt, queue, 65535)?;
-    assert!(rt; queue.offer(0, Millis(2)).is_ok());
-    assert!(rt; queue.offer(65534, Millis(1)).is_ok());
-    answers(rt, queue, 65534, 1)?;
-    answers(rt, queue, 0, 2)
+    assert!(rt; queue.offer(0, Millis::of(2)).is_ok());
+    assert!(rt; queue.offer(65534, Millis::of(1)).is_ok());
+    answers(rt, queue, 65534, 1);
+    answers(rt, queue, 0, 2);
+    Ok(())
 }
 
 #[test]
@@ -100,44 +87,31 @@ fn capacity_past_most(rt: HostRuntime) -> Result<(), Fail> {
 
 // A queue made over entries that another one used is empty.
 #[test]
-fn entries_used_before(rt: HostRuntime) -> Result<(), Fail> {
+fn entries_used_before(rt: HostRuntime) {
     let mut entries = [Entry::new(); 3];
     let mut heap = Heap::new(&mut entries);
-    assert!(rt; heap.offer(2, Millis(1)).is_ok());
-    assert!(rt; heap.offer(1, Millis(0)).is_ok());
-    answers(&rt, &mut heap, 1, 0)?;
+    assert!(rt; heap.offer(2, Millis::of(1)).is_ok());
+    assert!(rt; heap.offer(1, Millis::of(0)).is_ok());
+    answers(&rt, &mut heap, 1, 0);
     let mut again = Heap::new(&mut entries);
     assert_eq!(rt; again.count(), 0);
     assert!(rt; again.take().is_none());
-    Ok(())
 }
 
 #[test]
 fn sorts_where_there_is_room(rt: HostRuntime) -> Result<(), Fail> {
     let mut entries = [Entry::new(); 5];
     let mut heap = Heap::new(&mut entries);
-    let mut keys = [Millis(3), Millis(-1), Millis(3), Millis(0), Millis(9)];
+    let mut keys = [3, -1, 3, 0, 9].map(Millis::of);
     assert!(rt; sort_keys(&mut heap, &mut keys).is_ok());
-    assert_eq!(rt;
-        [keys[0].0, keys[1].0, keys[2].0, keys[3].0, keys[4].0],
-        [-1, 0, 3, 3, 9]
-    );
+    assert_eq!(rt; keys, [-1, 0, 3, 3, 9].map(Millis::of));
     assert_eq!(rt; heap.count(), 5);
-    let mut more = [
-        Millis(6),
-        Millis(5),
-        Millis(4),
-        Millis(3),
-        Millis(2),
-        Millis(1),
-    ];
-    match sort_keys(&mut heap, &mut more) {
-        Ok(()) => Err(Fail::new("accepted")),
-        Err(refusal) => {
-            assert_eq!(rt; refusal.number(), 12);
-            assert_eq!(rt; more[0].0, 6);
-            assert_eq!(rt; more[5].0, 1);
-            Ok(())
-        }
-    }
+    let offered = [6, 5, 4, 3, 2, 1].map(Millis::of);
+    let mut more = offered;
+    let Err(refusal) = sort_keys(&mut heap, &mut more) else {
+        return Err(Fail::new("accepted"));
+    };
+    assert_eq!(rt; refusal.number(), 12);
+    assert_eq!(rt; more, offered);
+    Ok(())
 }

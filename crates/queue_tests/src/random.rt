@@ -1,27 +1,20 @@
-// Random offers and takings, held to a list of the keys that wait, sorted at every taking.
+// Random offers and takings, held to a list of the keys that wait, of which the least is looked up at every taking.
 use delays::Millis;
 use heaps::{Entry, Heap};
 use queues::{Queue, Slot, Table};
-use std::alloc::{AllocError, Global};
 use std::process::Abort;
 use std::test::Fail;
 
 const EVENTS: usize = 40;
 
+// The same line makes numbers in the tests and in the program that compares queues: it is too little for a crate.
 fn next(seed: u32) -> u32 {
     seed.wrapping_mul(1664525).wrapping_add(1013904223)
 }
 
 // The least of the keys that wait.
-fn least(heap: Global, waiting: &[Option<i64>]) -> Result<Option<i64>, AllocError> {
-    let mut keys = Vec::new(heap);
-    for slot in waiting {
-        if let Some(key) = slot {
-            keys.push(*key)?;
-        }
-    }
-    keys.sort()?;
-    Ok(keys.first().copied())
+fn least(waiting: &[Option<i64>]) -> Option<i64> {
+    waiting.iter().flatten().copied().min()
 }
 
 fn offer_both<Q: Queue<Millis>>(
@@ -32,29 +25,24 @@ fn offer_both<Q: Queue<Millis>>(
     key: i64,
 ) {
     let at = event as usize;
-    let accepted = queue.offer(event, Millis(key)).is_ok();
+    let accepted = queue.offer(event, Millis::of(key)).is_ok();
     assert_eq!(rt; accepted, at < waiting.len());
-    if at < waiting.len() {
-        let old = waiting[at];
-        waiting[at] = match old {
-            Some(old) if old <= key => Some(old),
-            _ => Some(key),
-        };
+    if let Some(slot) = waiting.get_mut(at) {
+        *slot = Some(slot.map_or(key, |old| old.min(key)));
     }
 }
 
 // Which of equal keys comes first is free, so the event is held to the key that it waited under.
 fn take_both<Q: Queue<Millis>>(
     rt: &impl Abort,
-    heap: Global,
     queue: &mut Q,
     waiting: &mut [Option<i64>],
 ) -> Result<bool, Fail> {
-    match (queue.take(), least(heap, waiting)?) {
+    match (queue.take(), least(waiting)) {
         (None, None) => Ok(false),
-        (Some(taken), Some(key)) => {
-            let at = taken.0 as usize;
-            assert_eq!(rt; taken.1.0, key);
+        (Some((event, taken)), Some(key)) => {
+            let at = event as usize;
+            assert_eq!(rt; taken, Millis::of(key));
             assert!(rt; at < waiting.len());
             assert_eq!(rt; waiting[at], Some(key));
             waiting[at] = None;
@@ -67,7 +55,6 @@ fn take_both<Q: Queue<Millis>>(
 // Keys from a range: few of them make many equal.
 fn run<Q: Queue<Millis>>(
     rt: &impl Abort,
-    heap: Global,
     queue: &mut Q,
     waiting: &mut [Option<i64>],
     start: u32,
@@ -81,12 +68,12 @@ fn run<Q: Queue<Millis>>(
         let event = ((seed >> 8) % 43) as u16;
         let key = ((seed >> 12) % range) as i64 - 500;
         offer_both(rt, queue, waiting, event, key);
-        if (seed >> 20) % 3 == 0 && take_both(rt, heap, queue, waiting)? {
+        if (seed >> 20) % 3 == 0 && take_both(rt, queue, waiting)? {
             takings = takings.wrapping_add(1);
         }
     }
     for _ in 0..EVENTS {
-        if take_both(rt, heap, queue, waiting)? {
+        if take_both(rt, queue, waiting)? {
             takings = takings.wrapping_add(1);
         }
     }
@@ -102,14 +89,14 @@ fn run<Q: Queue<Millis>>(
 fn heap_and_list(rt: HostRuntime) -> Result<(), Fail> {
     let mut entries = [Entry::new(); EVENTS];
     let mut queue = Heap::new(&mut entries);
-    run(&rt, rt.alloc(), &mut queue, &mut [None; EVENTS], 1, 1000)?;
-    run(&rt, rt.alloc(), &mut queue, &mut [None; EVENTS], 2, 5)
+    run(&rt, &mut queue, &mut [None; EVENTS], 1, 1000)?;
+    run(&rt, &mut queue, &mut [None; EVENTS], 2, 5)
 }
 
 #[test]
 fn table_and_list(rt: HostRuntime) -> Result<(), Fail> {
     let mut slots = [Slot::new(); EVENTS];
     let mut queue = Table::new(&mut slots);
-    run(&rt, rt.alloc(), &mut queue, &mut [None; EVENTS], 3, 1000)?;
-    run(&rt, rt.alloc(), &mut queue, &mut [None; EVENTS], 4, 5)
+    run(&rt, &mut queue, &mut [None; EVENTS], 3, 1000)?;
+    run(&rt, &mut queue, &mut [None; EVENTS], 4, 5)
 }

@@ -1,4 +1,5 @@
 pub mod Order
+pub mod Keyed
 pub mod Scans
 pub mod Offers
 pub mod InOrder

@@ -17,12 +17,10 @@ pub use sorting::sort_keys;
 pub use tables::Table;
 
 // A queue of events that wait under keys of the kind K.
-// A queue is lawful where its own inner order stands, as it does after `clear` and in a new queue, and as every call keeps it.
+// Where a queue rests on an order of its own, its type states it, so that the order stands in every value.
 pub trait Queue<K: Delay> {
     // What the queue means.
     ghost contents: { Self → Contents K };
-
-    ghost lawful: { Self → Type 0 };
 
     // How many events can wait: those with numbers below this.
     fn capacity(&self) -> u16
@@ -34,18 +32,15 @@ pub trait Queue<K: Delay> {
 
     // Lets every key and the count go, whatever state the queue is in.
     fn clear(&mut self)
-        ensures sound { lawful self.new }
-        ensures left { contents self.new ≡ empty (capacity_of (contents self.old)) };
+        ensures { contents self.new ≡ empty (capacity_of (contents self.old)) };
 
     // Sets the event's key, if none or a larger one waits; refused exactly when the event is not below the capacity.
     fn offer(&mut self, event: EventNumber, key: K) -> Result<(), Refusal>
-        ensures sound { lawful self.old → lawful self.new }
         ensures answered { Answered (offer_questions (contents self.old) event) (outcome result) }
         ensures left { contents self.new ≡ left_by_offer K.Delay.less (contents self.old) event key result };
 
     // Removes an event with the least key and answers both; none exactly when nothing waits.
     fn take(&mut self) -> Option<(EventNumber, K)>
-        ensures sound { lawful self.old → lawful self.new }
-        ensures least { lawful self.old → Least K.Delay.less (contents self.old).waiting result }
+        ensures least { Least K.Delay.less (contents self.old).waiting result }
         ensures left { contents self.new ≡ left_by_take (contents self.old) result };
 }

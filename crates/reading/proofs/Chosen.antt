@@ -1,38 +1,13 @@
 -- Which rules are chosen. Assumes nothing.
-use Rattle.std.proofs.Common.{◌≡◌, ℕ, zero, suc, ◌+◌, ◌<◌, ◌≤◌, Bool, true, false, cond, List, [], ◌∷◌, ◌++◌, length, get_or, take, drop, set, sym, refl, ap, ◌∙◌, arith}
+use Rattle.std.proofs.Common.{◌≡◌, ℕ, zero, suc, ◌+◌, ◌<◌, ◌≤◌, Bool, true, false, List, [], ◌∷◌, ◌++◌, length, get_or, drop, set, sym, refl, ap, ◌∙◌, arith}
 use mathlib.Core.List.Memᴰ
-use Rattle.std.proofs.lemmas.List.{append-nil, length_push, length-take-le, take_all, take_more}
+use Rattle.std.proofs.lemmas.List.{append_assoc, length_push}
 use Rattle.std.proofs.lemmas.Bool.{false≢true}
 use Rattle.rules.specs.declared.records.Rule.{Rule}
 use Rattle.rules.specs.Meets.{◌∈◌}
-use Rattle.rules.specs.Places.{rule_at, no_rule}
+use Rattle.rules.specs.Places.{rule_at}
 use Rattle.reading.specs.Choices.{selected}
 use Rattle.reading.proofs.Fronts.{front_more}
-
--- with one more rule and its flag
-selected_push : (rules : List Rule) (flags : List Bool) (r : Rule) (f : Bool) → length rules ≡ length flags → selected (rules ++ r ∷ []) (flags ++ f ∷ []) ≡ selected rules flags ++ cond f (r ∷ []) []
-selected_push [] [] r true e = refl
-selected_push [] [] r false e = refl
-selected_push [] (g ∷ flags) r f e = absurd (omega arith)
-selected_push (q ∷ rules) [] r f e = absurd (omega arith)
-selected_push (q ∷ rules) (true ∷ flags) r f e = ap (λ (rs : List Rule). q ∷ rs) (selected_push rules flags r f (omega arith))
-selected_push (q ∷ rules) (false ∷ flags) r f e = selected_push rules flags r f (omega arith)
-
--- of one more place
-pub selected_more : (rules : List Rule) (flags : List Bool) (place : ℕ) → place < length rules → length rules ≤ length flags → selected (take (place + 1) rules) (take (place + 1) flags) ≡ selected (take place rules) (take place flags) ++ cond (get_or flags place false) (rule_at rules place ∷ []) []
-selected_more rules flags place h k =
-    let l = length-take-le place rules (omega arith) in
-    let m = length-take-le place flags (omega arith) in
-    rw (take_more rules place no_rule h, take_more flags place false (omega arith)) (selected_push (take place rules) (take place flags) (rule_at rules place) (get_or flags place false) (rw (l, m) refl))
-
--- flags past the rules choose nothing
-pub selected_take : (rules : List Rule) (flags : List Bool) (n : ℕ) → length rules ≤ n → selected rules (take n flags) ≡ selected rules flags
-selected_take [] flags n h = refl
-selected_take (r ∷ rules) [] zero h = refl
-selected_take (r ∷ rules) [] (suc n) h = refl
-selected_take (r ∷ rules) (f ∷ flags) zero h = absurd (omega arith)
-selected_take (r ∷ rules) (true ∷ flags) (suc n) h = ap (λ (rs : List Rule). r ∷ rs) (selected_take rules flags n (omega arith))
-selected_take (r ∷ rules) (false ∷ flags) (suc n) h = selected_take rules flags n (omega arith)
 
 -- no more are chosen than there are
 pub selected_few : (rules : List Rule) (flags : List Bool) → length (selected rules flags) ≤ length rules
@@ -68,33 +43,23 @@ selected_in (q ∷ rules) (false ∷ flags) zero h e = absurd (false≢true e)
 selected_in (q ∷ rules) (true ∷ flags) (suc place) h e = Memᴰ.tail (selected_in rules flags place (omega arith) e)
 selected_in (q ∷ rules) (false ∷ flags) (suc place) h e = selected_in rules flags place (omega arith) e
 
--- of the rules before a place, so many are chosen and written at the start of a list
-pub record Choosing (rules : List Rule) (flags : List Bool) (old chosen : List Rule) (place count : ℕ) : Type 0 where
-  pub counted : length (selected (take place rules) (take place flags)) ≡ count
-  pub list : chosen ≡ selected (take place rules) (take place flags) ++ drop count old
+-- so many of the rules are chosen and written at the start of a list, and these rules and flags are left
+pub record Choosing (rules : List Rule) (flags : List Bool) (old chosen : List Rule) (count : ℕ) (left : List Rule) (left_flags : List Bool) : Type 0 where
+  pub front : List Rule
+  pub counted : length front ≡ count
+  pub list : chosen ≡ front ++ drop count old
+  pub whole : selected rules flags ≡ front ++ selected left left_flags
+  pub room : count + length left ≤ length old
+  pub flagged : length left ≤ length left_flags
 
 module _ (rules : List Rule) (flags : List Bool) (old : List Rule) where
-  pub choosing_none : Choosing rules flags old old 0 0
-  choosing_none = record { counted = refl; list = refl }
-
-  -- the rule at the next place is chosen
-  pub choosing_more : (chosen : List Rule) (place count : ℕ) (r : Rule) → place < length rules → length rules ≤ length flags → length rules ≤ length old → get_or flags place false ≡ true → rule_at rules place ≡ r → count ≤ place → Choosing rules flags old chosen place count → Choosing rules flags old (set chosen count r) (place + 1) (count + 1)
-  choosing_more chosen place count r h k room flag is few c =
-      let front = selected (take place rules) (take place flags) in
-      let grown : selected (take (place + 1) rules) (take (place + 1) flags) ≡ front ++ r ∷ [] = rw (selected_more rules flags place h k, flag, is) refl in
-      record {
-        counted = rw (grown) (length_push front r ∙ ap (λ (n : ℕ). n + 1) c.counted);
-        list = rw (grown, c.list) (front_more front old count r c.counted (omega arith));
-      }
-
-  -- it is not
-  pub choosing_past : (chosen : List Rule) (place count : ℕ) → place < length rules → length rules ≤ length flags → get_or flags place false ≡ false → Choosing rules flags old chosen place count → Choosing rules flags old chosen (place + 1) count
-  choosing_past chosen place count h k flag c =
-      let front = selected (take place rules) (take place flags) in
-      let same : selected (take (place + 1) rules) (take (place + 1) flags) ≡ front = rw (selected_more rules flags place h k, flag) (append-nil front) in
-      record { counted = rw (same) c.counted; list = rw (same) c.list }
-
-  pub choosing_all : (chosen : List Rule) (place count : ℕ) → place ≡ length rules → Choosing rules flags old chosen place count → (count ≡ length (selected rules flags)) × (chosen ≡ selected rules flags ++ drop count old)
-  choosing_all chosen place count all c =
-      let whole : selected (take place rules) (take place flags) ≡ selected rules flags = rw (all, take_all (length rules) rules (omega arith)) (selected_take rules flags (length rules) (omega arith)) in
-      (sym (rw (whole) at c.counted), rw (whole) at c.list)
+  -- the next rule is chosen
+  pub choosing_more : (chosen : List Rule) (count : ℕ) (r : Rule) (left : List Rule) (left_flags : List Bool) → Choosing rules flags old chosen count (r ∷ left) (true ∷ left_flags) → Choosing rules flags old (set chosen count r) (count + 1) left left_flags
+  choosing_more chosen count r left left_flags c = record {
+    front = c.front ++ r ∷ [];
+    counted = length_push c.front r ∙ ap (λ (n : ℕ). n + 1) c.counted;
+    list = rw (c.list) (front_more c.front old count r c.counted (omega (arith, c.room)));
+    whole = c.whole ∙ sym (append_assoc c.front (r ∷ []) (selected left left_flags));
+    room = omega (arith, c.room);
+    flagged = omega (arith, c.flagged);
+  }

@@ -5,6 +5,7 @@ ghost use Rattle.reading.specs.Choices.{selected};
 use rules::Rule;
 
 // Writes those rules whose flags are true at the start of a list, in order, and answers how many there are; the entries past them stay.
+// The list is the caller's, since no call may allocate.
 pub fn select(rules: &[Rule], flags: &[bool], chosen: &mut [Rule]) -> usize
     requires flags { length rules.now ≤ length flags.now }
     requires room { length rules.now ≤ length chosen.old }
@@ -12,10 +13,10 @@ pub fn select(rules: &[Rule], flags: &[bool], chosen: &mut [Rule]) -> usize
     ensures chosen { chosen.new ≡ selected rules.now flags.now ++ drop result chosen.old }
 {
     let mut count = 0;
-    for place in 0..rules.len() {
-        if flags[place] {
-            chosen[count] = rules[place];
-            count = count + 1;
+    for (rule, flag) in rules.iter().zip(flags.iter()) {
+        if *flag {
+            chosen[count] = *rule;
+            count += 1;
         }
     }
     count

@@ -5,22 +5,19 @@ use lib.Signed.{le_z_yes, lt_z_yes}
 use Rattle.std.specs.List.{AllByRecursion}
 use Rattle.std.proofs.lemmas.Int.{ints}
 use Rattle.rules.specs.declared.records.Rule.{Rule}
-use Rattle.rules.specs.Meets.{◌∈◌, Times, at, lead, Meets}
+use Rattle.rules.specs.Meets.{◌∈◌, Times, at, Meets}
 use Rattle.rules.specs.Chains.{Chain, sum}
 use Rattle.rules.specs.Rings.{Ring, Negative}
 use Rattle.rules.specs.Settled.{Settled, Attained}
 use Rattle.rules.specs.Distances.{Shortest, FewestRules, below_zero, negatives, FewestNegatives, Ends}
 use Rattle.rules.specs.Prices.{loosened}
 use Rattle.rules.specs.Fills.{minus, rule, Unmeetable, single, SingleRule, opposite, OppositeRules, to_itself, SelfRule, uncut, three, RingOfThree, pair, UnreachedRing, zero_sum, ZeroRing, two_ways, TwoChains, tight, LoosenedRule, card_lift_valve, rule_14, ThreeEvents, Fills}
-use Rattle.rules.proofs.Members.{of_all}
+use Rattle.rules.proofs.Members.{Met, of_all}
 use Rattle.rules.proofs.Along.{no_negative_ring, ends_below}
 use Rattle.rules.proofs.Lengths.{ring_few}
 use Rattle.rules.proofs.Latest.{latest_by_chains}
 use Rattle.rules.proofs.Distances.{shortest_by_times}
 use Rattle.rules.proofs.Leads.{open_exactly, largest_from_distance}
-
-abbrev Met : Times → Rule → Type 0
-Met t r = lead t r.first r.second ≤ℤ r.limit
 
 abbrev Below : ℕ → Rule → Type 0
 Below n r = (r.first < n) × (r.second < n)

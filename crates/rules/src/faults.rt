@@ -1,19 +1,33 @@
-ghost use Rattle.std.specs.Prelude.{◌≡◌};
+ghost use Rattle.std.specs.Prelude.{◌≡◌, Some};
 ghost use Rattle.rules.specs.Refusals.{number_of};
-ghost use Rattle.rules.specs.Layers.{layer_of};
+ghost use Rattle.rules.specs.Layers.{layer_of, layer_text, fault_text};
 
 use crate::refusals::Refusal;
+use std::fmt;
 
 // What a load of a file was refused by: the file's bytes, the book that they hold, or the plan.
-#[derive(Clone, Copy)]
+#[derive(Clone, Copy, PartialEq, Eq, Debug)]
 pub enum Layer {
     File,
     Book,
     Plan,
 }
 
+// A layer's name.
+impl fmt::Display for Layer {
+    ghost output = { λ layer. Some (layer_text layer) };
+
+    fn fmt<W: fmt::Write>(&self, f: &mut fmt::Formatter<W>) -> fmt::Result {
+        match self {
+            Layer::File => write!(f, "file"),
+            Layer::Book => write!(f, "book"),
+            Layer::Plan => write!(f, "plan"),
+        }
+    }
+}
+
 // A refusal of a load. Beside number and place it names its layer, which its number tells.
-#[derive(Clone, Copy)]
+#[derive(Clone, Copy, PartialEq, Eq, Debug)]
 pub struct Fault {
     pub refusal: Refusal,
 }
@@ -28,6 +42,18 @@ impl Fault {
             1..=6 => Layer::Book,
             _ => Layer::Plan,
         }
+    }
+}
+
+// Layer, number and place of a refusal.
+impl fmt::Display for Fault {
+    ghost output = { λ fault. Some (fault_text fault) };
+
+    fn fmt<W: fmt::Write>(&self, f: &mut fmt::Formatter<W>) -> fmt::Result {
+        let layer = self.layer();
+        let number = self.refusal.number();
+        let place = self.refusal.place();
+        write!(f, "{layer} {number} {place}")
     }
 }
 

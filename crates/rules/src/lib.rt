@@ -2,6 +2,7 @@
 
 #![tactic(auto)]
 
+pub mod bounds;
 pub mod faults;
 pub mod records;
 pub mod refusals;

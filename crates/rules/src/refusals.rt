@@ -3,7 +3,7 @@ ghost use Rattle.rules.specs.Refusals.{number_of, place_of};
 
 // The first question that was answered no: one case for each question that a call can put.
 // A case whose place varies carries it.
-#[derive(Clone, Copy)]
+#[derive(Clone, Copy, PartialEq, Eq, Debug)]
 pub enum Refusal {
     // 1: from 1 to 1,024 events
     EventCount,

@@ -7,8 +7,7 @@ use crate::records::{EventNumber, Rule};
 fn time_of(times: &[i64], event: EventNumber) -> i64
     ensures { result ≡ at times.now event }
 {
-    let place = event as usize;
-    if place < times.len() { times[place] } else { 0 }
+    times.get(event as usize).copied().unwrap_or(0)
 }
 
 // The lead of the second event over the first. No two times are so far apart that it does not fit.
@@ -22,10 +21,5 @@ fn lead_of(times: &[i64], first: EventNumber, second: EventNumber) -> i128
 pub fn meets(rules: &[Rule], times: &[i64]) -> bool
     ensures { Decides result (Meets rules.now (at times.now)) }
 {
-    for rule in rules {
-        if lead_of(times, rule.first, rule.second) > rule.limit as i128 {
-            return false;
-        }
-    }
-    true
+    rules.iter().all(|rule| lead_of(times, rule.first, rule.second) <= rule.limit as i128)
 }

@@ -1,6 +1,6 @@
 -- Events that begin to wait, and searches that can start so.
 use Rattle.std.proofs.Common.{◌≡◌, ℕ, suc, ◌+◌, ◌-◌, ◌<◌, ◌≤◌, false, ◌≢◌, List, [], ◌∷◌, ◌++◌, length, get_or, take, set, replicate, Some, None, Option, sym, refl, ap, ◌∙◌, ⊎_elim, arith}
-use Rattle.std.proofs.lemmas.List.{append_assoc, take_more, get_or_at, set_at, get_or_append_left, get_or-append_right, get_or-set_same, get_or-set_other, get_or_past, get_or-replicate, length-append, length-take-le, length-replicate}
+use Rattle.std.proofs.lemmas.List.{append_assoc, take_more, set_at, get_or_append_left, get_or-append_right, get_or-set_same, get_or-set_other, get_or_past, get_or-replicate, length-take-le, length-replicate}
 use Rattle.std.proofs.lemmas.Bool.{cases_eq, cases_lt}
 use Rattle.rules.specs.Meets.{EventsBelow}
 use Rattle.rules.specs.Places.{first_of, second_of}
@@ -19,14 +19,8 @@ module _ {A : Type 0} (labels : List (Option A)) (n i : ℕ) where
   abbrev pub first_labels : List (Option A)
   first_labels = take i labels ++ replicate (n - i) None
 
-  pub first_long : i ≤ length labels → i ≤ n → length first_labels ≡ n
-  first_long h room = omega (arith, length-append (take i labels) (replicate {A = Option A} (n - i) None), length-take-le i labels h, length-replicate {A = Option A} (n - i) None)
-
   more : i < n → first_labels ≡ take i labels ++ None ∷ replicate (n - (i + 1)) None
   more h = let e : n - i ≡ suc (n - (i + 1)) = omega arith in ap (λ m. take i labels ++ replicate m None) e
-
-  pub first_none : i ≤ length labels → i < n → get_or first_labels i None ≡ None
-  first_none h room = ap (λ ws. get_or ws i None) (more room) ∙ get_or_at (take i labels) None (replicate (n - (i + 1)) None) None i (length-take-le i labels h)
 
   pub first_more : (label : Option A) → i < length labels → i < n → label ≡ get_or labels i None → set first_labels i label ≡ take (i + 1) labels ++ replicate (n - (i + 1)) None
   first_more label h room is =
@@ -44,7 +38,7 @@ module _ {K : Type 0} (g : Network K) where
   ready_all labels capacity = record {
     agree = λ v k e. sym (alike v) ∙ e;
     respected = λ place h k l w. absurd (clash (label_of s (first_of g.rules place)) l (sym (alike (first_of g.rules place)) ∙ w));
-    parentless = λ v. all_same (length labels) v 0;
+    parentless = λ v. all_same {A = Option ℕ} (length labels) v None;
     uncounted = refl;
   }
     where
@@ -73,7 +67,7 @@ module _ {K : Type 0} (g : Network K) where
         (λ q. record { label = key; is = ap (label_of s) q ∙ lab_here; small = a.ranks.chain (g.plus k (weight_of g place)) k key up (small k is) })
         (λ no. record { label = k; is = lab_other (second_of g.rules place) (events_below events g.rules below place lt).1 no ∙ is; small = up })
         (cases_eq (second_of g.rules place) event);
-    parentless = λ v. all_same events v 0;
+    parentless = λ v. all_same {A = Option ℕ} events v None;
     uncounted = refl;
   }
     where

@@ -2,6 +2,7 @@
 use Rattle.std.proofs.Common.{◌≡◌, ℕ, ◌+◌, ◌≤◌, Bool, true, false, Some, None, Option, refl, ◌∙◌, subst, arith}
 use Rattle.std.specs.Cmp.{IsStrictWeakOrder}
 use Rattle.std.proofs.lemmas.Bool.{both_ways}
+use Rattle.links.specs.Links.{After}
 use Rattle.search.specs.Networks.{Network}
 use Rattle.search.specs.Progress.{betters}
 
@@ -14,6 +15,10 @@ clash o p q = let z : ◌≡◌ {A = ℕ} 0 1 = cc in omega arith
 pub not_better : {K : Type 0} (less : K → K → Bool) (o : Option K) (k : K) → betters less o k ≡ false → (j : K) × (o ≡ Some j) × (less k j ≡ false)
 not_better less None k e = absurd (both_ways true e refl)
 not_better less (Some j) k e = (j, refl, e)
+
+-- every place comes after none
+pub after_none : (place : ℕ) → After None place
+after_none place = λ q s. absurd (clash {K = ℕ} None s refl)
 
 -- the laws that a search uses
 pub record Laws {K : Type 0} (g : Network K) : Type 0 where

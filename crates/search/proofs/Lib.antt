@@ -7,3 +7,4 @@ pub mod Walking
 pub mod Routes
 pub mod Sums
 pub mod Begins
+pub mod Fills

@@ -1,5 +1,5 @@
 -- An event with a least key is taken; the start and the end of a search.
-use Rattle.std.proofs.Common.{◌≡◌, ℕ, ◌<◌, ◌≤◌, false, ◌≢◌, List, [], ◌∷◌, length, Some, None, sym, refl, ap, ◌∙◌, subst, inl, inr, ⊎_elim, mul-le-mul_left, mul-suc, arith}
+use Rattle.std.proofs.Common.{◌≡◌, ℕ, ◌<◌, ◌≤◌, false, ◌≢◌, List, [], ◌∷◌, length, Some, None, Option, sym, refl, ap, ◌∙◌, subst, inl, inr, ⊎_elim, mul-le-mul_left, mul-suc, arith}
 use mathlib.Core.List.Memᴰ
 use Rattle.std.proofs.lemmas.Bool.{cases_eq, cases_lt}
 use Rattle.std.proofs.lemmas.List.{get_or-set_same, get_or-set_other, get_or_past, length-set}
@@ -9,17 +9,17 @@ use Rattle.rules.specs.Places.{first_of}
 use Rattle.rules.proofs.Lengths.{at_most}
 use Rattle.links.specs.Links.{Last}
 use Rattle.queues.specs.Contents.{capacity_of, left_by_take}
-use Rattle.search.specs.Networks.{Network, Labelling, labelling, events_of, label_of, key_of}
+use Rattle.search.specs.Networks.{Network, Labelling, labelling, events_of, label_of, parent_of, key_of}
 use Rattle.search.specs.Searches.{Ready, Exact, NotBelow}
 use Rattle.search.specs.Progress.{Adds, Midway, Leaving}
-use Rattle.search.proofs.Keys.{same, clash}
+use Rattle.search.proofs.Keys.{same, clash, after_none}
 use Rattle.search.proofs.Keeping.{given_same, taken_same}
 
 module _ {K : Type 0} (g : Network K) (start : Labelling K) where
-  pub any : (u w : ℕ) (taken : List ℕ) (s : Labelling K) → Midway g start u 0 taken s → Midway g start w 0 taken s
+  pub any : (u w : ℕ) (taken : List ℕ) (s : Labelling K) → Midway g start u None taken s → Midway g start w None taken s
   any u w taken s m = record {
     agree = m.agree;
-    respected = λ i h c. m.respected i h (λ e. omega arith);
+    respected = λ i h c. m.respected i h (λ e. after_none i);
     floor = m.floor;
     once = m.once;
     below = m.below;
@@ -37,7 +37,7 @@ module _ {K : Type 0} (g : Network K) (start : Labelling K) where
     counted = m.counted;
   }
 
-  module _ (taken : List ℕ) (s : Labelling K) (m : Midway g start 0 0 taken s) (u : ℕ) (k : K) (waits : key_of s u ≡ Some k) where
+  module _ (taken : List ℕ) (s : Labelling K) (m : Midway g start 0 None taken s) (u : ℕ) (k : K) (waits : key_of s u ≡ Some k) where
     fresh : u ∈ taken → ⊥
     fresh h = clash (key_of s u) waits (m.rests u h)
 
@@ -54,7 +54,7 @@ module _ {K : Type 0} (g : Network K) (start : Labelling K) where
     one_more : length taken < events_of start
     one_more = at_most (events_of start) (u ∷ taken) (fresh, m.once) below_more
 
-  pub adds : Exact g start → (taken : List ℕ) (s : Labelling K) → Midway g start 0 0 taken s → (v : ℕ) (k : K) → key_of s v ≡ Some k → Adds g k
+  pub adds : Exact g start → (taken : List ℕ) (s : Labelling K) → Midway g start 0 None taken s → (v : ℕ) (k : K) → key_of s v ≡ Some k → Adds g k
   adds r taken s m v k e i h =
       let a = m.sized r.b r.w r.within v k (m.agree v k e) in
       let b = r.within.weights i h in
@@ -62,8 +62,8 @@ module _ {K : Type 0} (g : Network K) (start : Labelling K) where
       let d = mul-suc r.w (length taken) in
       omega (arith, r.room)
 
-  module _ (taken : List ℕ) (s : Labelling K) (u : ℕ) (k : K) (c : ℕ) (m : Midway g start 0 0 taken s) (few : events_of start ≤ max_count) (fit : u < capacity_of s.queue) (waits : key_of s u ≡ Some k)
-      (least : (v : ℕ) (j : K) → key_of s v ≡ Some j → g.less j k ≡ false) (head : Last (first_of g.rules) (length g.rules) u c) where
+  module _ (taken : List ℕ) (s : Labelling K) (u : ℕ) (k : K) (held : Option ℕ) (m : Midway g start 0 None taken s) (few : events_of start ≤ max_count) (fit : u < capacity_of s.queue) (waits : key_of s u ≡ Some k)
+      (least : (v : ℕ) (j : K) → key_of s v ≡ Some j → g.less j k ≡ false) (head : Last (first_of g.rules) (length g.rules) u held) where
     abbrev s' : Labelling K
     s' = labelling s.labels s.parents (left_by_take s.queue (Some (u, k)))
 
@@ -91,13 +91,13 @@ module _ {K : Type 0} (g : Network K) (start : Labelling K) where
         (λ d. old v d i l)
         (Memᴰ.cases_cons h)
 
-    pub took : Leaving g start u k c (u ∷ taken) s'
+    pub took : Leaving g start u k held (u ∷ taken) s'
     took = record {
       midway = record {
         agree = λ v j e. m.agree v j (was v j e);
         respected = λ i h d j l w. ⊎_elim
-            (λ q. absurd (head.none i (d q) h q))
-            (λ ne. let r = m.respected i h (λ q. omega arith) j l (sym (key_o (first_of g.rules i) ne) ∙ w) in record { label = r.label; is = r.is; small = r.small })
+            (λ q. absurd (head.none i h (d q) q))
+            (λ ne. let r = m.respected i h (λ q. after_none i) j l (sym (key_o (first_of g.rules i) ne) ∙ w) in record { label = r.label; is = r.is; small = r.small })
             (cases_eq (first_of g.rules i) u);
         floor = λ y ky e. not_below ky (least y ky (was y ky e)) (m.floor y ky (was y ky e));
         once = (fresh taken s m u k waits, m.once);
@@ -134,7 +134,7 @@ module _ {K : Type 0} (g : Network K) (start : Labelling K) where
       room = λ b w f. let z = m.sized b w f u k at in let y = mul-suc w (length taken) in omega arith;
     }
 
-  pub begins : ((x : K) → g.less x x ≡ false) → Ready g start → Midway g start 0 0 [] start
+  pub begins : ((x : K) → g.less x x ≡ false) → Ready g start → Midway g start 0 None [] start
   begins irreflexive r = record {
     agree = r.agree;
     respected = λ i h c. r.respected i h;
@@ -145,7 +145,7 @@ module _ {K : Type 0} (g : Network K) (start : Labelling K) where
     known = λ v h. absurd (Memᴰ.not-nil h);
     ordered = tt;
     given = λ v. inl (r.parentless v, refl);
-    due = λ v h. ⊎_elim (λ w. inr w) (λ p. absurd (let z = r.parentless v in omega arith)) h;
+    due = λ v h. ⊎_elim (λ w. inr w) (λ p. absurd (clash (parent_of start v) p.1 (r.parentless v))) h;
     only = λ v h. ⊎_elim (λ d. absurd (Memᴰ.not-nil d)) (λ w. inl w) h;
     lower = λ v k e. (k, e, irreflexive k);
     sized = λ b w f v k e. let z = f.labels v k e in omega arith;

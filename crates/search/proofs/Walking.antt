@@ -1,8 +1,7 @@
 -- Chains by parents, and the way back along one. Assumes nothing.
-use Rattle.std.proofs.Common.{◌≡◌, ℕ, zero, suc, ◌+◌, ◌-◌, ◌<◌, ◌≤◌, List, [], ◌∷◌, ◌++◌, map, length, get_or, take, drop, set, sym, refl, ap, ◌∙◌, subst, ⊎_elim, arith}
+use Rattle.std.proofs.Common.{◌≡◌, ℕ, zero, suc, ◌+◌, ◌-◌, ◌<◌, ◌≤◌, List, [], ◌∷◌, ◌++◌, map, length, get_or, take, drop, set, Some, None, Option, sym, refl, ap, ◌∙◌, subst, ⊎_elim, arith}
 use mathlib.Core.List.Memᴰ
 use Rattle.std.proofs.lemmas.List.{take_more, take_all, take-append-drop, drop_more, drop_all, set_at, map-append, append_assoc, length-map, length-take-le}
-use Rattle.std.proofs.lemmas.Bool.{cases_lt}
 use Rattle.rules.specs.declared.records.Rule.{Rule}
 use Rattle.rules.specs.Meets.{◌∈◌, EventsBelow}
 use Rattle.rules.specs.Chains.{Chain, stops, Distinct}
@@ -10,8 +9,9 @@ use Rattle.rules.specs.Places.{no_rule, rule_at, first_of, second_of}
 use Rattle.rules.proofs.Members.{get_or_in}
 use Rattle.rules.proofs.Lengths.{few}
 use Rattle.search.specs.Forests.{Backward, Forest, rules_at, Traced}
+use Rattle.search.proofs.Keys.{same, clash}
 
-module _ (rules : List Rule) (parents : List ℕ) where
+module _ (rules : List Rule) (parents : List (Option ℕ)) where
   -- a chain by parents from v, where nothing that may come before it is on it
   record Onward (v end : ℕ) (events places : List ℕ) : Type 0 where
     below : v < length parents
@@ -19,10 +19,10 @@ module _ (rules : List Rule) (parents : List ℕ) where
     once : Distinct (stops (rules_at rules places))
     apart : (w : ℕ) → w ∈ (v ∷ events) → ¬ (w ∈ stops (rules_at rules places))
     within : (place : ℕ) → place ∈ places → place < length rules
-    parental : (place : ℕ) → place ∈ places → get_or parents (second_of rules place) 0 ≡ place + 1
+    parental : (place : ℕ) → place ∈ places → get_or parents (second_of rules place) None ≡ Some place
 
   module _ (end : ℕ) where
-    rooted : (v : ℕ) (events places : List ℕ) → get_or parents v 0 ≡ 0 → Onward v end events places → Traced rules parents end places
+    rooted : (v : ℕ) (events places : List ℕ) → get_or parents v None ≡ None → Onward v end events places → Traced rules parents end places
     rooted v events places e o = record {
       start = v;
       root = e;
@@ -33,33 +33,31 @@ module _ (rules : List Rule) (parents : List ℕ) where
     }
 
     -- one rule more in front
-    before : (v : ℕ) (events : List ℕ) (places : List ℕ) → Distinct (v ∷ events) → ((w : ℕ) → w ∈ events → w < length parents) → 0 < get_or parents v 0 → get_or parents v 0 ≤ length rules → second_of rules (get_or parents v 0 - 1) ≡ v → first_of rules (get_or parents v 0 - 1) ∈ events → Onward v end events places
-        → (rest : List ℕ) → ((w : ℕ) → w ∈ (first_of rules (get_or parents v 0 - 1) ∷ rest) → w ∈ events) → Onward (first_of rules (get_or parents v 0 - 1)) end rest ((get_or parents v 0 - 1) ∷ places)
-    before v events places once below some within ends begins o rest among =
-        let p : ℕ = get_or parents v 0 - 1 in
-        let lt : p < length rules = omega arith in
-        record {
-          below = below (first_of rules p) begins;
-          chain = (get_or_in rules p no_rule lt, refl, subst (λ (a : ℕ). Chain rules a end (rules_at rules places)) (sym ends) o.chain);
-          once = ((λ m. o.apart v (Memᴰ.head refl) (subst (λ (a : ℕ). a ∈ stops (rules_at rules places)) ends m)), o.once);
-          apart = λ w m k. ⊎_elim
-              (λ q. once.0 (subst (λ (a : ℕ). a ∈ events) (q ∙ ends) (among w m)))
-              (λ j. o.apart w (Memᴰ.tail (among w m)) j)
-              (Memᴰ.cases_cons k);
-          within = λ place m. ⊎_elim (λ q. subst (λ (a : ℕ). a < length rules) (sym q) lt) (o.within place) (Memᴰ.cases_cons m);
-          parental = λ place m. ⊎_elim
-              (λ q. ap (λ a. get_or parents (second_of rules a) 0) q ∙ ap (λ a. get_or parents a 0) ends ∙ (let n : get_or parents v 0 ≡ p + 1 = omega arith in n ∙ ap (λ a. a + 1) (sym q)))
-              (o.parental place)
-              (Memᴰ.cases_cons m);
-        }
+    before : (v p : ℕ) (events : List ℕ) (places : List ℕ) → Distinct (v ∷ events) → ((w : ℕ) → w ∈ events → w < length parents) → get_or parents v None ≡ Some p → p < length rules → second_of rules p ≡ v → first_of rules p ∈ events → Onward v end events places
+        → Onward (first_of rules p) end events (p ∷ places)
+    before v p events places once below parent within ends begins o = record {
+      below = below (first_of rules p) begins;
+      chain = (get_or_in rules p no_rule within, refl, subst (λ (a : ℕ). Chain rules a end (rules_at rules places)) (sym ends) o.chain);
+      once = ((λ m. o.apart v (Memᴰ.head refl) (subst (λ (a : ℕ). a ∈ stops (rules_at rules places)) ends m)), o.once);
+      apart = λ w m k.
+          let among : w ∈ events = ⊎_elim (λ z. subst (λ (a : ℕ). a ∈ events) (sym z) begins) (λ j. j) (Memᴰ.cases_cons m) in ⊎_elim
+          (λ q. once.0 (subst (λ (a : ℕ). a ∈ events) (q ∙ ends) among))
+          (λ j. o.apart w (Memᴰ.tail among) j)
+          (Memᴰ.cases_cons k);
+      within = λ place m. ⊎_elim (λ q. subst (λ (a : ℕ). a < length rules) (sym q) within) (o.within place) (Memᴰ.cases_cons m);
+      parental = λ place m. ⊎_elim
+          (λ q. ap (λ a. get_or parents (second_of rules a) None) q ∙ ap (λ a. get_or parents a None) ends ∙ parent ∙ ap Some (sym q))
+          (o.parental place)
+          (Memᴰ.cases_cons m);
+    }
 
     walk : (events : List ℕ) → Distinct events → ((w : ℕ) → w ∈ events → w < length parents) → Backward rules parents events → (v : ℕ) → v ∈ events → (places : List ℕ) → Onward v end events places → (all : List ℕ) × Traced rules parents end all
     walk [] once below back v m places o = absurd (Memᴰ.not-nil m)
     walk (x ∷ events) once below back v m places o = ⊎_elim
         (λ q. let here : Onward x end events places = subst (λ (a : ℕ). Onward a end events places) q (fewer o) in ⊎_elim
         (λ e. (places, rooted x events places e here))
-        (λ r. walk events once.1 (λ w k. below w (Memᴰ.tail k)) back.1 _ r.3 ((get_or parents x 0 - 1) ∷ places)
-        (before x events places once (λ w k. below w (Memᴰ.tail k)) r.0 r.1 r.2 r.3 here events (λ w k. ⊎_elim (λ z. subst (λ (a : ℕ). a ∈ events) (sym z) r.3) (λ j. j) (Memᴰ.cases_cons k))))
+        (λ (p, parent, within, ends, begins). walk events once.1 (λ w k. below w (Memᴰ.tail k)) back.1 _ begins (p ∷ places)
+        (before x p events places once (λ w k. below w (Memᴰ.tail k)) parent within ends begins here))
         back.0)
         (λ k. walk events once.1 (λ w j. below w (Memᴰ.tail j)) back.1 v k places (fewer o))
         (Memᴰ.cases_cons m)
@@ -69,13 +67,14 @@ module _ (rules : List Rule) (parents : List ℕ) where
 
     -- every event has a chain by parents
     pub chain_to : end < length parents → Forest rules parents → (places : List ℕ) × Traced rules parents end places
-    chain_to h f = ⊎_elim
-        (λ some. walk f.events f.once f.below f.backward end (f.all end some) [] none)
-        (λ e. ([], rooted end f.events [] (omega arith) none))
-        (cases_lt 0 (get_or parents end 0))
+    chain_to h f = led (get_or parents end None) refl
       where
         none : Onward end end f.events []
         none = record { below = h; chain = refl; once = tt; apart = λ w m k. Memᴰ.not-nil k; within = λ place m. absurd (Memᴰ.not-nil m); parental = λ place m. absurd (Memᴰ.not-nil m) }
+
+        led : (parent : Option ℕ) → get_or parents end None ≡ parent → (places : List ℕ) × Traced rules parents end places
+        led None e = ([], rooted end f.events [] e none)
+        led (Some p) e = walk f.events f.once f.below f.backward end (f.all end p e) [] none
 
   pub chain_few : EventsBelow (length parents) rules → (v : ℕ) (places : List ℕ) → Traced rules parents v places → length places < length parents
   chain_few w v places t =
@@ -96,13 +95,9 @@ module _ (rules : List Rule) (parents : List ℕ) where
   pub back_begin : (v : ℕ) (places : List ℕ) → v < length parents → Traced rules parents v places → Back v places (length places) v
   back_begin v places h t = record { traced = t; within = omega arith; chain = subst (λ (ps : List ℕ). Chain rules t.start v (rules_at rules ps)) (sym (take_all (length places) places (omega arith))) t.simple.chain; below = h }
 
-  -- at the start of the chain there is no parent
-  back_all : (v : ℕ) (places : List ℕ) (at : ℕ) → Back v places 0 at → get_or parents at 0 ≡ 0
-  back_all v places at b = sym (ap (λ a. get_or parents a 0) b.chain) ∙ b.traced.root
-
   -- with rules left, the parent is the last of them, and its first event comes next
   pub back_more : (v : ℕ) (places : List ℕ) (left at : ℕ) → EventsBelow (length parents) rules → 0 < left → Back v places left at
-      → (get_or parents at 0 ≡ get_or places (left - 1) 0 + 1) × (get_or parents at 0 - 1 < length rules) × Back v places (left - 1) (first_of rules (get_or parents at 0 - 1))
+      → (get_or parents at None ≡ Some (get_or places (left - 1) 0)) × (get_or places (left - 1) 0 < length rules) × Back v places (left - 1) (first_of rules (get_or places (left - 1) 0))
   back_more v places left at w some b =
       let h = b.within in
       let p : ℕ = get_or places (left - 1) 0 in
@@ -111,18 +106,21 @@ module _ (rules : List Rule) (parents : List ℕ) where
       let e : left ≡ left - 1 + 1 = omega arith in
       let front : rules_at rules (take left places) ≡ rules_at rules (take (left - 1) places) ++ rule_at rules p ∷ [] = ap (λ n. rules_at rules (take n places)) e ∙ ap (rules_at rules) (take_more places (left - 1) 0 (omega arith)) ∙ map-append (rule_at rules) (take (left - 1) places) (p ∷ []) in
       let c = chain_last b.traced.start at (rules_at rules (take (left - 1) places)) (rule_at rules p) (subst (λ (path : List Rule). Chain rules b.traced.start at path) front b.chain) in
-      let is : get_or parents at 0 ≡ p + 1 = sym (ap (λ a. get_or parents a 0) c.1) ∙ b.traced.parental p m in
-      let own : p ≡ get_or parents at 0 - 1 = omega arith in
-      (is, omega arith, subst (λ (q : ℕ). Back v places (left - 1) (first_of rules q)) own (record { traced = b.traced; within = omega arith; chain = c.0; below = (w _ (get_or_in rules p no_rule lt)).0 }))
+      (sym (ap (λ a. get_or parents a None) c.1) ∙ b.traced.parental p m, lt, record { traced = b.traced; within = omega arith; chain = c.0; below = (w _ (get_or_in rules p no_rule lt)).0 })
 
-  -- rules are left exactly where there is a parent
-  pub back_some : (v : ℕ) (places : List ℕ) (left at : ℕ) → 0 < get_or parents at 0 → Back v places left at → 0 < left
-  back_some v places zero at some b = absurd (let e = back_all v places at b in omega arith)
-  back_some v places (suc left) at some b = omega arith
+  -- where there is a parent, it is the last of the rules left, and its first event comes next
+  pub back_some : (v : ℕ) (places : List ℕ) (left at p : ℕ) → EventsBelow (length parents) rules → get_or parents at None ≡ Some p → Back v places left at
+      → (0 < left) × (p ≡ get_or places (left - 1) 0) × (p < length rules) × Back v places (left - 1) (first_of rules p)
+  back_some v places zero at p w e b = absurd (clash (get_or parents at None) e (sym (ap (λ a. get_or parents a None) b.chain) ∙ b.traced.root))
+  back_some v places (suc left) at p w e b =
+      let m = back_more v places (suc left) at w (omega arith) b in
+      let is : p ≡ get_or places (suc left - 1) 0 = same (sym e ∙ m.0) in
+      (omega arith, is, subst (λ (q : ℕ). q < length rules) (sym is) m.1, subst (λ (q : ℕ). Back v places (suc left - 1) (first_of rules q)) (sym is) m.2)
 
-  pub back_none : (v : ℕ) (places : List ℕ) (left at : ℕ) → EventsBelow (length parents) rules → get_or parents at 0 ≡ 0 → Back v places left at → left ≡ 0
+  -- and where there is none, none is left
+  pub back_none : (v : ℕ) (places : List ℕ) (left at : ℕ) → EventsBelow (length parents) rules → get_or parents at None ≡ None → Back v places left at → left ≡ 0
   back_none v places zero at w e b = refl
-  back_none v places (suc left) at w e b = absurd (let m = back_more v places (suc left) at w (omega arith) b in omega (arith, m.0))
+  back_none v places (suc left) at w e b = absurd (clash (get_or parents at None) (back_more v places (suc left) at w (omega arith) b).0 e)
 
 -- numbers written from the end of a chain down to a place
 abbrev pub half_written : List Rule → List ℕ → List ℕ → ℕ → List ℕ

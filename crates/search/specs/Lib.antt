@@ -3,3 +3,4 @@ pub mod Forests
 pub mod Searches
 pub mod Progress
 pub mod Beginnings
+pub mod Meanings

@@ -1,5 +1,5 @@
 -- What a search starts from, and what it comes to. Assumes nothing.
-use Rattle.std.specs.Prelude.{◌≡◌, ℕ, ◌+◌, ◌-◌, ◌*◌, ◌<◌, ◌≤◌, false, ◌⊎◌, ◌↔◌, List, [], ◌∷◌, length, Some, None}
+use Rattle.std.specs.Prelude.{◌≡◌, ℕ, ◌+◌, ◌*◌, ◌<◌, ◌≤◌, false, ◌⊎◌, ◌↔◌, List, [], ◌∷◌, length, Some, None}
 use Rattle.delays.specs.Exactness.{exact_size}
 use Rattle.rules.specs.Bounds.{max_count}
 use Rattle.rules.specs.Meets.{◌∈◌, EventsBelow}
@@ -7,17 +7,14 @@ use Rattle.rules.specs.Chains.{Distinct}
 use Rattle.rules.specs.Places.{first_of, second_of}
 use Rattle.queues.specs.Contents.{capacity_of}
 use Rattle.queues.specs.Sorts.{taken_out}
-use Rattle.search.specs.Networks.{Network, Labelling, events_of, label_of, parent_of, key_of, weight_of, Waits, Route, total}
+use Rattle.search.specs.Networks.{Network, Labelling, events_of, label_of, parent_of, key_of, weight_of, Waits, HasParent, Route, total}
 use Rattle.search.specs.Forests.{Forest, Traced}
 
--- the lists handed to a search belong together: rules between the events, a weight and a link for each rule, a parent for each
--- event, and a queue in which each event can wait
-pub record Fitting {K : Type 0} (g : Network K) (head_list next_list : List ℕ) (s : Labelling K) : Type 0 where
+-- what a search changes belongs together: rules between the events, a parent for each event, and a queue in which each event
+-- can wait
+pub record Fitting {K : Type 0} (g : Network K) (s : Labelling K) : Type 0 where
   pub few : events_of s ≤ max_count
   pub events : EventsBelow (events_of s) g.rules
-  pub weights : length g.rules ≤ length g.weights
-  pub heads : events_of s ≤ length head_list
-  pub nexts : length g.rules ≤ length next_list
   pub parents : length s.parents ≡ events_of s
   pub capacity : events_of s ≤ capacity_of s.queue
 
@@ -48,22 +45,23 @@ pub record Respected {K : Type 0} (g : Network K) (s : Labelling K) (place : ℕ
 pub record Ready {K : Type 0} (g : Network K) (s : Labelling K) : Type 0 where
   pub agree : (v : ℕ) (k : K) → key_of s v ≡ Some k → label_of s v ≡ Some k
   pub respected : (place : ℕ) → place < length g.rules → (k : K) → label_of s (first_of g.rules place) ≡ Some k → key_of s (first_of g.rules place) ≡ None → Respected g s place k
-  pub parentless : (v : ℕ) → parent_of s v ≡ 0
+  pub parentless : (v : ℕ) → parent_of s v ≡ None
   pub uncounted : s.queue.count ≡ 0
 
 -- v has the label of the first event of its parent rule and the rule's weight, and that event is one of these
 pub record ByParent {K : Type 0} (g : Network K) (events : List ℕ) (s : Labelling K) (v : ℕ) : Type 0 where
-  pub some : 0 < parent_of s v
-  pub within : parent_of s v ≤ length g.rules
-  pub ends : second_of g.rules (parent_of s v - 1) ≡ v
-  pub begins : first_of g.rules (parent_of s v - 1) ∈ events
+  pub place : ℕ
+  pub parent : parent_of s v ≡ Some place
+  pub within : place < length g.rules
+  pub ends : second_of g.rules place ≡ v
+  pub begins : first_of g.rules place ∈ events
   pub key : K
-  pub before : label_of s (first_of g.rules (parent_of s v - 1)) ≡ Some key
-  pub is : label_of s v ≡ Some (g.plus key (weight_of g (parent_of s v - 1)))
+  pub before : label_of s (first_of g.rules place) ≡ Some key
+  pub is : label_of s v ≡ Some (g.plus key (weight_of g place))
 
 -- v has no parent and its label at the start, or its label by its parent from one of these events
 abbrev pub Given : {K : Type 0} → Network K → Labelling K → List ℕ → Labelling K → ℕ → Type 0
-Given g start events s v = ((parent_of s v ≡ 0) × (label_of s v ≡ label_of start v)) ⊎ ByParent g events s v
+Given g start events s v = ((parent_of s v ≡ None) × (label_of s v ≡ label_of start v)) ⊎ ByParent g events s v
 
 -- k is not less than the labels of these events
 abbrev pub NotBelow : {K : Type 0} → Network K → Labelling K → List ℕ → K → Type 0
@@ -95,7 +93,7 @@ pub record Searched {K : Type 0} (g : Network K) (start s : Labelling K) : Type 
   pub taken : List ℕ
   pub once : Distinct taken
   pub below : (v : ℕ) → v ∈ taken → v < events_of start
-  pub exactly : (v : ℕ) → (v ∈ taken) ↔ (Waits start v ⊎ (0 < parent_of s v))
+  pub exactly : (v : ℕ) → (v ∈ taken) ↔ (Waits start v ⊎ HasParent s v)
   pub ordered : Taken g start s taken
   pub given : (v : ℕ) → Given g start taken s v
   pub forest : Forest g.rules s.parents

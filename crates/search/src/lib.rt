@@ -2,13 +2,11 @@
 
 #![tactic(auto)]
 
-pub mod linking;
+pub mod networks;
 pub mod searching;
-pub mod slices;
 pub mod starts;
 pub mod tracing;
 
-pub use linking::link_rules;
-pub use searching::search;
+pub use networks::{Network, link_rules};
 pub use starts::{start_alone, start_labelled};
 pub use tracing::trace;

@@ -1,53 +1,16 @@
 // The search: take an event with the least key and see to the rules that leave it, until nothing waits.
-ghost use Rattle.std.specs.Prelude.{◌≡◌, ℕ, ◌+◌, ◌<◌, ◌≤◌, false, List, length, Some, None, slice_index, slice_index_or};
-ghost use Rattle.rules.specs.Places.{first_of};
-ghost use Rattle.delays.specs.Exactness.{exact_size};
-ghost use Rattle.links.specs.Links.{Linked};
+// Labels, parents and the queue stay parameters of their own: the caller lends them, and reads what is left in them.
+ghost use Rattle.std.specs.Prelude.{◌≡◌, ℕ, ◌<◌, ◌≤◌, List, length, Some, None, slice_index_or};
 ghost use Rattle.queues.specs.Contents.{capacity_of};
-ghost use Rattle.search.specs.Networks.{network, labelling, Labelling};
-ghost use Rattle.search.specs.Searches.{Fitting, NoneNegative, Exact, Ready, Searched};
+ghost use Rattle.search.specs.Networks.{labelling, Labelling};
+ghost use Rattle.search.specs.Meanings.{network_of};
+ghost use Rattle.search.specs.Searches.{Fitting, Exact, Ready, Searched};
 ghost use Rattle.search.specs.Progress.{betters, improved, Adds, Midway, Leaving, Turned};
 
-use crate::slices::second_at;
+use crate::Network;
 use delays::Delay;
 use queues::Queue;
-use rules::{EventNumber, Rule};
-
-// The weight of the rule at a place.
-fn weight_at<K: Delay>(weights: &[K], place: usize) -> K
-    requires { place < length weights.now }
-    ensures { result ≡ slice_index_or weights.now place K.Delay.zero }
-{
-    weights[place]
-}
-
-// The place, held as one more, of the rule before the one at a place that has the same first event; 0 for none.
-fn next_of(nexts: &[u16], place: usize) -> u16
-    requires { place < length nexts.now }
-    ensures { result ≡ slice_index nexts.now place }
-{
-    nexts[place]
-}
-
-// The key to which a rule of this weight leads from an event that was taken with the key: never one below that.
-fn reach<K: Delay>(key: K, weight: K) -> K
-    requires exact { K.Delay.size key + K.Delay.size weight ≤ exact_size }
-    requires rising { K.Delay.less weight K.Delay.zero ≡ false }
-    ensures sum { result ≡ K.Delay.plus key weight }
-    ensures floor { K.Delay.less result key ≡ false }
-{
-    key.sum(weight)
-}
-
-// Whether a key is smaller than a label, or there is no label yet.
-fn is_better<K: Delay>(label: Option<K>, key: K) -> bool
-    ensures { result ≡ betters K.Delay.less label key }
-{
-    match label {
-        None => true,
-        Some(old) => key.below(old),
-    }
-}
+use rules::EventNumber;
 
 // Gives the event the key for its label, by the parent, and has it wait under it, where the key is better than its label.
 fn improve<K: Delay, Q: Queue<K>>(
@@ -55,106 +18,79 @@ fn improve<K: Delay, Q: Queue<K>>(
     parent: u16,
     key: K,
     labels: &mut [Option<K>],
-    parents: &mut [u16],
+    parents: &mut [Option<u16>],
     queue: &mut Q,
 )
     requires labels { event < length labels.old }
     requires parents { event < length parents.old }
     requires capacity { event < capacity_of (Q.Queue.contents queue.old) }
-    ensures lawful { Q.Queue.lawful queue.old → Q.Queue.lawful queue.new }
-    ensures done { labelling labels.new parents.new (Q.Queue.contents queue.new) ≡ improved K.Delay.less (labelling labels.old parents.old (Q.Queue.contents queue.old)) event parent key }
+    ensures { labelling labels.new parents.new (Q.Queue.contents queue.new) ≡ improved K.Delay.less (labelling labels.old parents.old (Q.Queue.contents queue.old)) event parent key }
 {
     let at = event as usize;
-    if is_better(labels[at], key) {
+    if labels[at].is_none_or(|old| key.below(old)) {
         labels[at] = Some(key);
-        parents[at] = parent;
+        parents[at] = Some(parent);
         let _ = queue.offer(event, key);
     }
 }
 
-// Sees to every rule that leaves the event, which was taken with the key.
-fn relax<K: Delay, Q: Queue<K>>(
-    event: EventNumber,
-    key: K,
-    rules: &[Rule],
-    weights: &[K],
-    heads: &[u16],
-    nexts: &[u16],
-    labels: &mut [Option<K>],
-    parents: &mut [u16],
-    queue: &mut Q,
-)
-    requires event { event < length labels.old }
-    requires linked { Linked (first_of rules.now) (length rules.now) heads.now nexts.now }
-    requires fitting { Fitting (network K.Delay rules.now weights.now) heads.now nexts.now (labelling labels.old parents.old (Q.Queue.contents queue.old)) }
-    requires rising { NoneNegative (network K.Delay rules.now weights.now) }
-    requires adds { Adds (network K.Delay rules.now weights.now) key }
-    ensures lawful { Q.Queue.lawful queue.old → Q.Queue.lawful queue.new }
-    ensures onward { (start : Labelling K) (taken : List ℕ) → Leaving (network K.Delay rules.now weights.now) start event key (slice_index heads.now event) taken (labelling labels.old parents.old (Q.Queue.contents queue.old)) → Midway (network K.Delay rules.now weights.now) start event 0 taken (labelling labels.new parents.new (Q.Queue.contents queue.new)) }
-{
-    let mut held = heads[event as usize];
-    while held > 0 {
-        let place = held as usize - 1;
-        let reached = reach(key, weight_at(weights, place));
-        improve(
-            second_at(rules, place),
-            held,
-            reached,
-            labels,
-            parents,
-            queue,
-        );
-        held = next_of(nexts, place);
-    }
-}
-
-// Takes an event with the least key and sees to the rules that leave it; false where nothing waits.
-fn turn<K: Delay, Q: Queue<K>>(
-    rules: &[Rule],
-    weights: &[K],
-    heads: &[u16],
-    nexts: &[u16],
-    labels: &mut [Option<K>],
-    parents: &mut [u16],
-    queue: &mut Q,
-) -> bool
-    requires lawful { Q.Queue.lawful queue.old }
-    requires linked { Linked (first_of rules.now) (length rules.now) heads.now nexts.now }
-    requires fitting { Fitting (network K.Delay rules.now weights.now) heads.now nexts.now (labelling labels.old parents.old (Q.Queue.contents queue.old)) }
-    requires rising { NoneNegative (network K.Delay rules.now weights.now) }
-    requires adds { (v : ℕ) (k : K) → slice_index_or (Q.Queue.contents queue.old).waiting v None ≡ Some k → (v < length labels.old) × Adds (network K.Delay rules.now weights.now) k }
-    ensures lawful { Q.Queue.lawful queue.new }
-    ensures onward { (start : Labelling K) (taken : List ℕ) → Midway (network K.Delay rules.now weights.now) start 0 0 taken (labelling labels.old parents.old (Q.Queue.contents queue.old)) → Turned (network K.Delay rules.now weights.now) start taken (labelling labels.new parents.new (Q.Queue.contents queue.new)) result }
-{
-    match queue.take() {
-        None => false,
-        Some(first) => {
-            relax(
-                first.0, first.1, rules, weights, heads, nexts, labels, parents, queue,
-            );
-            true
+impl<'a, K: Delay> Network<'a, K> {
+    // Sees to every rule that leaves the event, which was taken with the key.
+    fn relax<Q: Queue<K>>(
+        &self,
+        event: EventNumber,
+        key: K,
+        labels: &mut [Option<K>],
+        parents: &mut [Option<u16>],
+        queue: &mut Q,
+    )
+        requires event { event < length labels.old }
+        requires heads { length labels.old ≤ length self.now.links.heads.now }
+        requires fitting { Fitting (network_of self.now) (labelling labels.old parents.old (Q.Queue.contents queue.old)) }
+        requires adds { Adds (network_of self.now) key }
+        ensures { (start : Labelling K) (taken : List ℕ) → Leaving (network_of self.now) start event key (slice_index_or self.now.links.heads.now event None) taken (labelling labels.old parents.old (Q.Queue.contents queue.old)) → Midway (network_of self.now) start event None taken (labelling labels.new parents.new (Q.Queue.contents queue.new)) }
+    {
+        for place in self.links.places(event as usize) {
+            let second = self.rules[place as usize].second;
+            let reached = key.sum(self.weights[place as usize]);
+            improve(second, place, reached, labels, parents, queue);
         }
     }
-}
 
-// Searches from the waiting events until none waits.
-pub fn search<K: Delay, Q: Queue<K>>(
-    rules: &[Rule],
-    weights: &[K],
-    heads: &[u16],
-    nexts: &[u16],
-    labels: &mut [Option<K>],
-    parents: &mut [u16],
-    queue: &mut Q,
-)
-    requires lawful { Q.Queue.lawful queue.old }
-    requires linked { Linked (first_of rules.now) (length rules.now) heads.now nexts.now }
-    requires fitting { Fitting (network K.Delay rules.now weights.now) heads.now nexts.now (labelling labels.old parents.old (Q.Queue.contents queue.old)) }
-    requires rising { NoneNegative (network K.Delay rules.now weights.now) }
-    requires ready { Ready (network K.Delay rules.now weights.now) (labelling labels.old parents.old (Q.Queue.contents queue.old)) }
-    requires exact { Exact (network K.Delay rules.now weights.now) (labelling labels.old parents.old (Q.Queue.contents queue.old)) }
-    ensures lawful { Q.Queue.lawful queue.new }
-    ensures searched { Searched (network K.Delay rules.now weights.now) (labelling labels.old parents.old (Q.Queue.contents queue.old)) (labelling labels.new parents.new (Q.Queue.contents queue.new)) }
-{
-    while turn(rules, weights, heads, nexts, labels, parents, queue) {}
+    // Takes an event with the least key and sees to the rules that leave it; false where nothing waits.
+    fn turn<Q: Queue<K>>(
+        &self,
+        labels: &mut [Option<K>],
+        parents: &mut [Option<u16>],
+        queue: &mut Q,
+    ) -> bool
+        requires heads { length labels.old ≤ length self.now.links.heads.now }
+        requires fitting { Fitting (network_of self.now) (labelling labels.old parents.old (Q.Queue.contents queue.old)) }
+        requires adds { (v : ℕ) (k : K) → slice_index_or (Q.Queue.contents queue.old).waiting v None ≡ Some k → (v < length labels.old) × Adds (network_of self.now) k }
+        ensures { (start : Labelling K) (taken : List ℕ) → Midway (network_of self.now) start 0 None taken (labelling labels.old parents.old (Q.Queue.contents queue.old)) → Turned (network_of self.now) start taken (labelling labels.new parents.new (Q.Queue.contents queue.new)) result }
+    {
+        match queue.take() {
+            None => false,
+            Some(first) => {
+                self.relax(first.0, first.1, labels, parents, queue);
+                true
+            }
+        }
+    }
+
+    // Searches from the waiting events until none waits.
+    pub fn search<Q: Queue<K>>(
+        &self,
+        labels: &mut [Option<K>],
+        parents: &mut [Option<u16>],
+        queue: &mut Q,
+    )
+        requires heads { length labels.old ≤ length self.now.links.heads.now }
+        requires fitting { Fitting (network_of self.now) (labelling labels.old parents.old (Q.Queue.contents queue.old)) }
+        requires ready { Ready (network_of self.now) (labelling labels.old parents.old (Q.Queue.contents queue.old)) }
+        requires exact { Exact (network_of self.now) (labelling labels.old parents.old (Q.Queue.contents queue.old)) }
+        ensures { Searched (network_of self.now) (labelling labels.old parents.old (Q.Queue.contents queue.old)) (labelling labels.new parents.new (Q.Queue.contents queue.new)) }
+    {
+        while self.turn(labels, parents, queue) {}
+    }
 }

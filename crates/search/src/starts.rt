@@ -1,30 +1,19 @@
 // Labels, parents and a queue for a search to start from.
-ghost use Rattle.std.specs.Prelude.{◌≡◌, ◌<◌, ◌≤◌, false, length, replicate, Some, None, slice_index_or, slice_set};
+ghost use Rattle.std.specs.Prelude.{◌≡◌, ◌<◌, ◌≤◌, false, length, Some, None, slice_index_or, slice_set};
 ghost use Rattle.rules.specs.Bounds.{max_count};
 ghost use Rattle.queues.specs.Contents.{capacity_of, holds};
 ghost use Rattle.search.specs.Networks.{labelling};
 ghost use Rattle.search.specs.Beginnings.{alone, all_waiting, Startable};
 
-use crate::slices::fill;
 use delays::Delay;
 use queues::Queue;
 use rules::EventNumber;
-
-// Gives every event the label, but one event the key.
-fn label_alone<K: Delay>(event: EventNumber, key: K, label: Option<K>, labels: &mut [Option<K>])
-    requires { event < length labels.old }
-    ensures { labels.new ≡ slice_set (replicate (length labels.old) label) event (Some key) }
-{
-    fill(labels, label);
-    labels[event as usize] = Some(key);
-}
 
 // Has the event wait under its label, if it has one.
 fn offer_label<K: Delay, Q: Queue<K>>(event: EventNumber, label: Option<K>, queue: &mut Q)
     requires capacity { event < capacity_of (Q.Queue.contents queue.old) }
     requires absent { slice_index_or (Q.Queue.contents queue.old).waiting event None ≡ None }
-    ensures lawful { Q.Queue.lawful queue.old → Q.Queue.lawful queue.new }
-    ensures left { Q.Queue.contents queue.new ≡ holds (slice_set (Q.Queue.contents queue.old).waiting event label) (Q.Queue.contents queue.old).count }
+    ensures { Q.Queue.contents queue.new ≡ holds (slice_set (Q.Queue.contents queue.old).waiting event label) (Q.Queue.contents queue.old).count }
 {
     if let Some(key) = label {
         let _ = queue.offer(event, key);
@@ -37,18 +26,19 @@ pub fn start_alone<K: Delay, Q: Queue<K>>(
     key: K,
     label: Option<K>,
     labels: &mut [Option<K>],
-    parents: &mut [u16],
+    parents: &mut [Option<u16>],
     queue: &mut Q,
 )
     requires event { event < length labels.old }
     requires parents { length parents.old ≡ length labels.old }
     requires capacity { length labels.old ≤ capacity_of (Q.Queue.contents queue.old) }
-    ensures lawful { Q.Queue.lawful queue.new }
     ensures started { labelling labels.new parents.new (Q.Queue.contents queue.new) ≡ alone (length labels.old) (capacity_of (Q.Queue.contents queue.old)) event key label }
-    ensures ready { ((z : K) → label ≡ Some z → K.Delay.less z key ≡ false) → Startable K.Delay (labelling labels.new parents.new (Q.Queue.contents queue.new)) }
+    ensures ready { ((z : K) → label ≡ Some z → K.Delay.less z key ≡ false) → Startable K.Delay.own (labelling labels.new parents.new (Q.Queue.contents queue.new)) }
 {
-    label_alone(event, key, label, labels);
-    fill(parents, 0);
+    // A kind of delay promises nothing of `clone`, which `fill` calls.
+    labels.fill_with(move || label);
+    labels[event as usize] = Some(key);
+    parents.fill(None);
     queue.clear();
     offer_label(event, Some(key), queue);
 }
@@ -56,19 +46,18 @@ pub fn start_alone<K: Delay, Q: Queue<K>>(
 // Has every labelled event wait under its label; no event has a parent.
 pub fn start_labelled<K: Delay, Q: Queue<K>>(
     labels: &[Option<K>],
-    parents: &mut [u16],
+    parents: &mut [Option<u16>],
     queue: &mut Q,
 )
     requires few { length labels.now ≤ max_count }
     requires parents { length parents.old ≡ length labels.now }
     requires capacity { length labels.now ≤ capacity_of (Q.Queue.contents queue.old) }
-    ensures lawful { Q.Queue.lawful queue.new }
     ensures started { labelling labels.now parents.new (Q.Queue.contents queue.new) ≡ all_waiting labels.now (capacity_of (Q.Queue.contents queue.old)) }
-    ensures ready { Startable K.Delay (labelling labels.now parents.new (Q.Queue.contents queue.new)) }
+    ensures ready { Startable K.Delay.own (labelling labels.now parents.new (Q.Queue.contents queue.new)) }
 {
-    fill(parents, 0);
+    parents.fill(None);
     queue.clear();
-    for event in 0..labels.len() {
-        offer_label(event as u16, labels[event], queue);
+    for (event, label) in labels.iter().enumerate() {
+        offer_label(event as u16, *label, queue);
     }
 }

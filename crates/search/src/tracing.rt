@@ -3,11 +3,12 @@ ghost use Rattle.std.specs.Prelude.{◌≡◌, ℕ, ◌+◌, ◌<◌, ◌≤◌,
 ghost use Rattle.rules.specs.Meets.{EventsBelow};
 ghost use Rattle.search.specs.Forests.{Forest, Traced, Written};
 
-use crate::slices::{first_at, number_at};
 use rules::{EventNumber, Rule, RuleNumber};
 
+// Rules and parents stay two parameters: a type that holds both cannot state `Forest`, which is given by a list of events and is no proposition.
+
 // How many rules the chain by parents to the event has.
-fn depth(rules: &[Rule], parents: &[u16], event: EventNumber) -> usize
+fn depth(rules: &[Rule], parents: &[Option<u16>], event: EventNumber) -> usize
     requires event { event < length parents.now }
     requires events { EventsBelow (length parents.now) rules.now }
     requires forest { Forest rules.now parents.now }
@@ -16,8 +17,8 @@ fn depth(rules: &[Rule], parents: &[u16], event: EventNumber) -> usize
 {
     let mut at = event as usize;
     let mut count = 0;
-    while parents[at] > 0 {
-        at = first_at(rules, parents[at] as usize - 1) as usize;
+    while let Some(place) = parents[at] {
+        at = rules[place as usize].first as usize;
         count += 1;
     }
     count
@@ -26,7 +27,7 @@ fn depth(rules: &[Rule], parents: &[u16], event: EventNumber) -> usize
 // Writes the numbers of the rules by which the parents lead to the event, in order of travel, and answers how many there are.
 pub fn trace(
     rules: &[Rule],
-    parents: &[u16],
+    parents: &[Option<u16>],
     event: EventNumber,
     numbers: &mut [RuleNumber],
 ) -> usize
@@ -39,12 +40,11 @@ pub fn trace(
 {
     let count = depth(rules, parents, event);
     let mut at = event as usize;
-    let mut left = count;
-    while left > 0 {
-        left -= 1;
-        let place = parents[at] as usize - 1;
-        numbers[left] = number_at(rules, place);
-        at = first_at(rules, place) as usize;
+    // By index: a proof does not see what a loop over `iter_mut().rev()` writes.
+    for left in (0..count).rev() {
+        let rule = rules[parents[at].unwrap() as usize];
+        numbers[left] = rule.number;
+        at = rule.first as usize;
     }
     count
 }

@@ -2,7 +2,7 @@
 
 #![tactic(auto)]
 
-ghost use Rattle.std.specs.Prelude.{◌≡◌, ◌≤◌, length, replicate, pos, unsigned_abs};
+ghost use Rattle.std.specs.Prelude.{◌≡◌, ◌≤◌, length, unsigned_abs};
 ghost use Rattle.rules.specs.declared.records.Rule.{Rule};
 ghost use Rattle.rules.specs.Meets.{◌∈◌, EventsBelow};
 ghost use Rattle.queues.specs.Contents.{capacity_of};
@@ -11,67 +11,48 @@ ghost use Rattle.settled.specs.Settlings.{Settles, QueueLeft};
 
 use delays::Millis;
 use heaps::{Entry, Heap};
-use pricing::prices;
+use pricing::{Ring, prices};
 use queues::Queue;
 use rules::{Rule, RuleNumber};
-use settling::{MAX_NODES, settle};
+use settling::{Loosened, MAX_NODES, settle};
 
-// Settles with a list for prices, all of them 0.
-fn settle_from<Q: Queue<Millis>>(
-    rules: &[Rule],
-    start: &mut [i64],
-    times: &mut [i64],
-    queue: &mut Q,
-    ring: &mut [RuleNumber],
-) -> Option<usize>
-    requires start { start.old ≡ replicate (length times.old) (pos 0) }
-    requires few_events { length times.old ≤ max_nodes }
-    requires few_rules { length rules.now ≤ max_edges }
-    requires events { EventsBelow (length times.old) rules.now }
-    requires limits { (r : Rule) → r ∈ rules.now → unsigned_abs r.limit ≤ limit_size }
-    requires capacity { length times.old ≤ capacity_of (Q.Queue.contents queue.old) }
-    requires ring { length times.old ≤ length ring.old }
-    ensures lawful { Q.Queue.lawful queue.new }
-    ensures settles { Settles rules.now times.old times.new ring.old ring.new result }
-    ensures queue { QueueLeft (length times.old) (Q.Queue.contents queue.old) (Q.Queue.contents queue.new) result }
-{
-    match prices(rules, start, Millis(0), queue, ring) {
-        None => {
-            settle(rules, start, Millis(0), queue, times);
-            None
-        }
-        Some(size) => Some(size),
-    }
-}
-
-// Writes the settled times of the rules, one for each entry of the list. Where no times meet the rules, writes the numbers of the rules of
-// a negative ring, in order, and answers how many. The queue may be in any state.
+// Writes the settled times of the rules, one for each entry of the list. Where no times meet the rules, answers a negative ring, and writes the
+// numbers of its rules, in order. The queue may be in any state.
 pub fn settle_rules<Q: Queue<Millis>>(
     rules: &[Rule],
     times: &mut [i64],
     queue: &mut Q,
     ring: &mut [RuleNumber],
-) -> Option<usize>
+) -> Result<(), Ring>
     requires few_events { length times.old ≤ max_nodes }
     requires few_rules { length rules.now ≤ max_edges }
     requires events { EventsBelow (length times.old) rules.now }
     requires limits { (r : Rule) → r ∈ rules.now → unsigned_abs r.limit ≤ limit_size }
     requires capacity { length times.old ≤ capacity_of (Q.Queue.contents queue.old) }
     requires ring { length times.old ≤ length ring.old }
-    ensures lawful { Q.Queue.lawful queue.new }
     ensures settles { Settles rules.now times.old times.new ring.old ring.new result }
     ensures queue { QueueLeft (length times.old) (Q.Queue.contents queue.old) (Q.Queue.contents queue.new) result }
 {
+    // A fixed array, since no call allocates.
     let mut start = [0i64; MAX_NODES];
-    let all = &mut start[..];
-    let part = &mut all[0..times.len()];
+    let start = &mut start[..times.len()];
     // All are 0 already; the call says so of the part.
-    part.fill(0);
-    settle_from(rules, part, times, queue, ring)
+    start.fill(0);
+    let loose = Loosened {
+        rules,
+        by: Millis::of(0),
+    };
+    prices(&loose, start, queue, ring)?;
+    settle(&loose, start, queue, times);
+    Ok(())
 }
 
 // The same with a heap of its own.
-pub fn settle_by_heap(rules: &[Rule], times: &mut [i64], ring: &mut [RuleNumber]) -> Option<usize>
+pub fn settle_by_heap(
+    rules: &[Rule],
+    times: &mut [i64],
+    ring: &mut [RuleNumber],
+) -> Result<(), Ring>
     requires few_events { length times.old ≤ max_nodes }
     requires few_rules { length rules.now ≤ max_edges }
     requires events { EventsBelow (length times.old) rules.now }
@@ -79,6 +60,7 @@ pub fn settle_by_heap(rules: &[Rule], times: &mut [i64], ring: &mut [RuleNumber]
     requires ring { length times.old ≤ length ring.old }
     ensures { Settles rules.now times.old times.new ring.old ring.new result }
 {
+    // A fixed array, since no call allocates.
     let mut entries: [Entry<Millis>; MAX_NODES] = [Entry::new(); MAX_NODES];
     let mut heap = Heap::new(&mut entries[..]);
     settle_rules(rules, times, &mut heap, ring)

@@ -5,8 +5,7 @@ use lib.Signed.{lt_z}
 use Rattle.std.proofs.lemmas.Int.{ints}
 use Rattle.std.proofs.lemmas.List.{get_or_past}
 use Rattle.std.proofs.lemmas.Bool.{cases_lt}
-use Rattle.delays.specs.declared.times.Millis.{Millis}
-use Rattle.delays.specs.Numbers.{millis_zero, millis_plus, millis_less, millis_size}
+use Rattle.delays.specs.Numbers.{Millis, amount_zero, amount_plus, amount_less, amount_size}
 use Rattle.rules.specs.declared.records.Rule.{Rule}
 use Rattle.rules.specs.Meets.{at, lead, Times, Meets, EventsBelow}
 use Rattle.rules.specs.Chains.{Chain, sum}
@@ -19,7 +18,7 @@ use Rattle.search.specs.Forests.{rules_at}
 use Rattle.search.specs.Searches.{NoneNegative, Searched}
 use Rattle.search.proofs.Keys.{clash}
 use Rattle.search.proofs.Events.{events_below}
-use Rattle.settling.specs.Sizes.{limit_size, loosening_size, price_size, Sized, Feasible}
+use Rattle.settling.specs.Sizes.{limit_size, loosening_size, price_size, Limited, Sized, Feasible}
 use Rattle.settling.specs.Weights.{Weighed}
 
 pub not_below : (a b : ℤ) → lt_z a b ≡ false → b ≤ℤ a
@@ -43,16 +42,23 @@ weight_size = 3_000_000_000_000_000
 pub reduced_within : (l by a b : ℤ) → nat_abs l ≤ limit_size → nat_abs by ≤ loosening_size → nat_abs a ≤ price_size → nat_abs b ≤ price_size → nat_abs (((l +ℤ by) +ℤ a) -ℤ b) ≤ weight_size
 reduced_within l by a b h i j k = omega (arith, ints)
 
+-- a network by its rules and weights, and what holds of it, once it has been made of equal ones
+abbrev pub over : List Rule → List Millis → Network Millis
+over rules weights = record { less = amount_less; plus = amount_plus; zero = amount_zero; size = amount_size; rules = rules; weights = weights }
+
+pub over_same : (P : Network Millis → Type 0) (rules others : List Rule) (weights keys : List Millis) → rules ≡ others → weights ≡ keys → P (over rules weights) → P (over others keys)
+over_same P rules others weights keys e f h = subst (λ (ws : List Millis). P (over others ws)) f (subst (λ (rs : List Rule). P (over rs weights)) e h)
+
 module _ (by : ℤ) (rules : List Rule) (prices : List ℤ) (weights : List Millis) (weighed : Weighed by rules prices weights) where
   abbrev pub net : Network Millis
-  net = record { less = millis_less; plus = millis_plus; zero = millis_zero; size = millis_size; rules = rules; weights = weights }
+  net = over rules weights
 
   pub weight_is : (place : ℕ) → place < length rules → (weight_of net place).0 ≡ reduced_limit (at prices) (loosen by (rule_at rules place))
   weight_is place h = ap (λ m. m.0) (weighed place h)
 
-  pub weight_within : Sized by rules prices → (place : ℕ) → place < length rules → nat_abs (weight_of net place).0 ≤ weight_size
-  weight_within sized place h = subst (λ (z : ℤ). nat_abs z ≤ weight_size) (sym (weight_is place h))
-      (reduced_within (rule_at rules place).limit by (at prices (first_of rules place)) (at prices (second_of rules place)) (sized.limits _ (get_or_in rules place no_rule h)) sized.loosening (sized.prices_within _) (sized.prices_within _))
+  pub weight_within : Limited by rules → Sized rules prices → (place : ℕ) → place < length rules → nat_abs (weight_of net place).0 ≤ weight_size
+  weight_within limited sized place h = subst (λ (z : ℤ). nat_abs z ≤ weight_size) (sym (weight_is place h))
+      (reduced_within (rule_at rules place).limit by (at prices (first_of rules place)) (at prices (second_of rules place)) (limited.limits _ (get_or_in rules place no_rule h)) limited.loosening (sized.prices_within _) (sized.prices_within _))
 
   pub none_negative : Feasible by rules prices → NoneNegative net
   none_negative feasible place h =
@@ -69,7 +75,7 @@ module _ (by : ℤ) (rules : List Rule) (prices : List ℤ) (weights : List Mill
       let z = q.1 in
       ((Memᴰ.map (loosen by) (get_or_in rules place no_rule h), e, q.0), omega (arith, ints))
 
-  module _ (sized : Sized by rules prices) (start s : Labelling Millis) (found : Searched net start s) (t : Times)
+  module _ (sized : Sized rules prices) (start s : Labelling Millis) (found : Searched net start s) (t : Times)
       (times : (v : ℕ) (k : Millis) → v < length prices → label_of s v ≡ Some k → t v ≡ k.0 +ℤ at prices v)
       (known : (v : ℕ) → v < length prices → (k : Millis) × (label_of s v ≡ Some k)) where
     meets_at : (place : ℕ) → place < length rules → lead t (first_of rules place) (second_of rules place) ≤ℤ ((rule_at rules place).limit +ℤ by)

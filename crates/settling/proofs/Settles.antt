@@ -2,8 +2,7 @@
 use Rattle.std.proofs.Common.{◌≡◌, ℕ, zero, suc, ◌+◌, ◌*◌, ◌<◌, ◌≤◌, ◌≢◌, List, [], ◌∷◌, length, ℤ, pos, ◌+ℤ◌, neg_ℤ, nat_abs, ◌≤ℤ◌, Some, sym, refl, ap, ◌∙◌, subst, inl, ⊎_elim, arith}
 use mathlib.Core.List.Memᴰ
 use Rattle.std.proofs.lemmas.Int.{ints}
-use Rattle.delays.specs.declared.times.Millis.{Millis}
-use Rattle.delays.specs.Numbers.{millis}
+use Rattle.delays.specs.Numbers.{Millis, amount}
 use Rattle.delays.specs.Exactness.{exact_size}
 use Rattle.rules.specs.declared.records.Rule.{Rule}
 use Rattle.rules.specs.Meets.{◌∈◌, at}
@@ -14,7 +13,7 @@ use Rattle.rules.proofs.Latest.{latest_by_chains}
 use Rattle.search.specs.Networks.{Labelling, label_of, Waits, events_of}
 use Rattle.search.specs.Searches.{Within, Exact, Searched}
 use Rattle.search.proofs.Keys.{same}
-use Rattle.settling.specs.Sizes.{price_size, Sized}
+use Rattle.settling.specs.Sizes.{price_size, Limited, Sized}
 use Rattle.settling.specs.Weights.{Weighed, Opposed, Raised, raised}
 use Rattle.settling.proofs.Reductions.{net, not_below, labelled_below, weight_size, weight_within, labels_meet, labels_attained}
 
@@ -37,14 +36,14 @@ at_least (suc n) xs all =
 opposite_within : (z : ℤ) → nat_abs z ≤ price_size → nat_abs (neg_ℤ z) ≤ price_size
 opposite_within z h = omega (arith, ints)
 
-module _ (by : ℤ) (rules : List Rule) (prices : List ℤ) (weights : List Millis) (weighed : Weighed by rules prices weights) (sized : Sized by rules prices)
+module _ (by : ℤ) (rules : List Rule) (prices : List ℤ) (weights : List Millis) (weighed : Weighed by rules prices weights) (limited : Limited by rules) (sized : Sized rules prices)
     (start : Labelling Millis) (long : events_of start ≡ length prices) (opposed : Opposed prices start.labels) where
   pub start_within : Within (net by rules prices weights weighed) start price_size weight_size
   start_within = record {
     labels = λ v k e.
         let h : v < length prices = let l = labelled_below start.labels v k e in omega arith in
         subst (λ (m : Millis). nat_abs m.0 ≤ price_size) (same (sym (opposed v h) ∙ e)) (opposite_within (at prices v) (sized.prices_within v));
-    weights = weight_within by rules prices weights weighed sized;
+    weights = weight_within by rules prices weights weighed limited sized;
   }
 
   pub start_exact : Exact (net by rules prices weights weighed) start
@@ -69,7 +68,7 @@ module _ (by : ℤ) (rules : List Rule) (prices : List ℤ) (weights : List Mill
 
     low : (v : ℕ) → v < length prices → (k : Millis) × (label_of s v ≡ Some k) × (k.0 ≤ℤ neg_ℤ (at prices v))
     low v h =
-        let f = found.least v v [] (millis (neg_ℤ (at prices v))) refl (opposed v h) in
+        let f = found.least v v [] (amount (neg_ℤ (at prices v))) refl (opposed v h) in
         let b = not_below (neg_ℤ (at prices v) +ℤ pos 0) f.0.0 f.2 in
         (f.0, f.1, omega (arith, ints))
 
@@ -87,7 +86,7 @@ module _ (by : ℤ) (rules : List Rule) (prices : List ℤ) (weights : List Mill
       attained v h =
           let (u, key, path, from, chain, sums) = labels_attained by rules prices weights weighed sized start s found (at times) time_of known v h in
           let lt : u < length prices = let l = labelled_below start.labels u key from in omega arith in
-          let k : (millis (neg_ℤ (at prices u))).0 ≡ key.0 = ap (λ m. m.0) (same (sym (opposed u lt) ∙ from)) in
+          let k : neg_ℤ (at prices u) ≡ key.0 = ap (λ (m : Millis). m.0) (same (sym (opposed u lt) ∙ from)) in
           (u, path, lt, chain, omega (arith, ints))
 
       pub settles : Settled (length prices) (loosened by rules) (at times)

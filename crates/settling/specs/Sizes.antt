@@ -23,13 +23,16 @@ loosening_size = 100_000_000_000
 abbrev pub price_size : ℕ
 price_size = 1_000_000_000_000_000
 
--- there is a price for each event of the rules, there is room for all, and limits, prices and the number by which the rules are loosened are not too large
-pub record Sized (by : ℤ) (rules : List Rule) (prices : List ℤ) : Type 0 where
-  pub few_events : length prices ≤ max_nodes
+-- there is room for all the rules, and no limit is too large, nor the number by which they are loosened
+pub record Limited (by : ℤ) (rules : List Rule) : Type 0 where
   pub few_rules : length rules ≤ max_edges
-  pub events : EventsBelow (length prices) rules
   pub limits : (r : Rule) → r ∈ rules → unsigned_abs r.limit ≤ limit_size
   pub loosening : unsigned_abs by ≤ loosening_size
+
+-- there is a price for each event of the rules, there is room for all, and no price is too large
+pub record Sized (rules : List Rule) (prices : List ℤ) : Type 0 where
+  pub few_events : length prices ≤ max_nodes
+  pub events : EventsBelow (length prices) rules
   pub prices_within : (v : ℕ) → unsigned_abs (at prices v) ≤ price_size
 
 -- the prices are feasible for the rules loosened by so much: no reduced limit is below 0, which is to say that they are times that meet the loosened rules

@@ -2,11 +2,11 @@
 
 #![tactic(auto)]
 
+pub mod loosened;
 pub mod times;
-pub mod weighing;
 
-pub use times::settle;
-pub use weighing::{label_at, price_at, raise, reduced_limit, weigh};
+pub use loosened::Loosened;
+pub use times::{raise_all, settle};
 
 // There is room for so many events and rules, a few more than a book has.
 pub const MAX_NODES: usize = 1_032;

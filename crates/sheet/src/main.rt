@@ -8,7 +8,8 @@ ghost use Rattle.books.specs.Opened.{file_of};
 ghost use Rattle.sheet.specs.Reads.{read_questions};
 
 use books::{Book, Packed, check};
-use rules::{Fault, Layer};
+use rules::Fault;
+use rules::bounds::{MAX_EVENTS, MAX_RULES};
 use settling::{Times, settle};
 use std::io;
 use std::io::{Read, Write};
@@ -18,7 +19,7 @@ mod settling;
 mod tests;
 
 // One byte past the longest lawful file: 9 bytes, 4,096 rules of 10, and 1,024 names of 12, each after a length byte.
-const MOST_BYTES: u64 = 54_282;
+const MOST_BYTES: u64 = 9 + 10 * MAX_RULES as u64 + 13 * MAX_EVENTS as u64 + 1;
 
 // The book of a file: refused at the first no of questions 21 to 29 and then 1 to 6.
 fn read_book(bytes: &[u8]) -> Result<Packed, Fault>
@@ -44,6 +45,7 @@ fn write_events(out: &mut Vec<u8>, book: &Packed, times: &Times) -> io::Result<(
     let events = book.events();
     let count = book.count();
     writeln!(out, "events {events} rules {count}")?;
+    // A book is asked for names by number, and its events stand in no list.
     for event in 0..events {
         let time = times.of(event).saturating_sub(times.of(0));
         let name = book.name(event).unwrap_or(b"");
@@ -52,26 +54,18 @@ fn write_events(out: &mut Vec<u8>, book: &Packed, times: &Times) -> io::Result<(
     Ok(())
 }
 
-fn write_refusal(out: &mut Vec<u8>, fault: Fault) -> io::Result<()> {
-    let layer = match fault.layer() {
-        Layer::File => "file",
-        Layer::Book => "book",
-        Layer::Plan => "plan",
-    };
-    let number = fault.refusal.number();
-    let place = fault.refusal.place();
-    writeln!(out, "refused {layer} {number} {place}")
+// The book of a file and its settled times.
+fn settle_book(bytes: &[u8]) -> Result<(Packed, Times), Fault> {
+    let book = read_book(bytes)?;
+    let times = settle(&book)?;
+    Ok((book, times))
 }
 
 // What is printed for the bytes of a file.
 fn write_sheet(out: &mut Vec<u8>, bytes: &[u8]) -> io::Result<()> {
-    let book = match read_book(bytes) {
-        Ok(book) => book,
-        Err(fault) => return write_refusal(out, fault),
-    };
-    match settle(&book) {
-        Ok(times) => write_events(out, &book, &times),
-        Err(refusal) => write_refusal(out, Fault::from(refusal)),
+    match settle_book(bytes) {
+        Ok((book, times)) => write_events(out, &book, &times),
+        Err(fault) => writeln!(out, "refused {fault}"),
     }
 }
 

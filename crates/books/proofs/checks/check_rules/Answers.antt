@@ -1,7 +1,7 @@
 use Rattle.std.proofs.Common.{◌%◌, ◌<◌, length, sym, refl, ap, arith}
 use Rattle.std.proofs.lemmas.Result.{err_from_is_err_and}
 use Rattle.rules.specs.declared.records.Rule.{Rule}
-use Rattle.links.proofs.Grows.{linked_none, linked_more}
+use Rattle.links.proofs.Grows.{linked_none, linked_more, linked_falls}
 use Rattle.books.specs.Numbering.{remainders, remainder_of}
 use Rattle.books.proofs.Putting.{rules_begin, rules_more, rules_no, rules_all}
 use Rattle.books.proofs.checks.check_rules.Goals as goal
@@ -10,6 +10,11 @@ pub loop-place-init : goal.loop-place-init
 loop-place-init g c =
     let book = g.B.Book.meaning c.args.book.now in
     (refl, refl, linked_none (remainder_of book.rules) remainders _, rules_begin book.events book.rules)
+
+pub invariant_of-links : goal.invariant_of-links
+invariant_of-links g c =
+    let book = g.B.Book.meaning c.args.book.now in
+    record { falling = linked_falls (remainder_of book.rules) c.loop-place.place _ _ c.loop-place.invariant.2 (omega arith) }
 
 pub returns-in_err-check_rule : goal.returns-in_err-check_rule
 returns-in_err-check_rule g c =

@@ -1,8 +1,8 @@
+use Rattle.std.proofs.Common.{◌≡◌}
 use Rattle.books.proofs.Frees.{Sought}
 use Rattle.books.proofs.checks.is_free.Given as goal
 
-abbrev pub invariant-loop-held : goal.invariant-loop-held
-invariant-loop-held g l = Sought (g.B.Book.meaning l.book).rules l.number l.place l.held
-
-abbrev pub decreases-loop-held : goal.decreases-loop-held
-decreases-loop-held g l = l.held
+abbrev pub invariant-loop-earlier : goal.invariant-loop-earlier
+invariant-loop-earlier g l =
+    (l.earlier-iterator.nexts.now ≡ l.links.nexts.now)
+    × Sought (g.B.Book.meaning l.book).rules l.number l.place l.earlier-iterator.held

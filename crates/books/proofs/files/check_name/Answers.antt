@@ -1,27 +1,21 @@
-use Rattle.std.proofs.Common.{arith}
+use Rattle.std.proofs.Common.{rules, ◌+◌, MatchOption}
+use borrow.Author.Tests.{tests}
 use Rattle.std.proofs.lemmas.Bool.{false≢true}
-use Rattle.books.proofs.Names.{letters_begin, letters_more, letters_no, letters_all, name_no}
+use Rattle.std.proofs.lemmas.Iterator.{IsFirst-from_position, YieldsList-from_slice}
+use Rattle.rules.specs.Questions.{AllYes, FirstNo}
+use Rattle.books.specs.Files.{Letter, name_questions}
+use Rattle.books.proofs.Names.{name_no, name_told}
 use Rattle.books.proofs.files.check_name.Goals as goal
+use Rattle.books.proofs.files.check_name.Goals.{After-position}
 
-pub returns-then-not-has_name : goal.returns-then-not-has_name
-returns-then-not-has_name c = record { answer = name_no c.args.bytes.now c.args.at (λ there. false≢true (c.if-not-has_name.ensures.1 there)); next = tt }
+told : (c : After-position) → MatchOption c.position.result (AllYes (name_questions c.args.bytes.now c.args.at)) (λ i. FirstNo (name_questions c.args.bytes.now c.args.at) 28 (c.args.at + 1 + i))
+told c = name_told c.args.bytes.now c.args.at (c.has_name.ensures.0 c.if-not-has_name.false) c.name_at-name.result.now c.name_at-name.ensures c.position.result (IsFirst-from_position _ _ _ (λ b. ¬ Letter b) Letter c.position.ensures.ran (YieldsList-from_slice c.name_at-name.result.now cc) (λ x q k. search (rules, tests)) (λ x q k. search (rules, tests)))
 
-pub loop-letter-init : goal.loop-letter-init
-loop-letter-init c = letters_begin c.args.bytes.now c.args.at (c.has_name.ensures.0 c.if-not-has_name.false)
+pub returns-then-not-has_name-clause-answer : goal.returns-then-not-has_name-clause-answer
+returns-then-not-has_name-clause-answer c = name_no c.args.bytes.now c.args.at (λ there. false≢true (c.if-not-has_name.ensures.1 there))
 
-pub returns-then-not-is_letter : goal.returns-then-not-is_letter
-returns-then-not-is_letter c =
-    record {
-      answer = letters_no c.args.bytes.now c.args.at c.loop-letter.letter c.loop-letter-test.true (λ good. false≢true (c.if-not-is_letter.ensures.1 good)) c.loop-letter.invariant;
-      next = tt;
-    }
+pub returns-in-Some-clause-answer : goal.returns-in-Some-clause-answer
+returns-in-Some-clause-answer c = rw (c.in-Some.is) at (told (goal.at.returns-in-Some-clause-answer c).After-position)
 
-pub loop-letter-preserved : goal.loop-letter-preserved
-loop-letter-preserved c = letters_more c.args.bytes.now c.args.at c.loop-letter.letter (c.is_letter.ensures.0 c.if-not-is_letter.false) c.loop-letter.invariant
-
-pub returns : goal.returns
-returns c =
-    record {
-      answer = letters_all c.args.bytes.now c.args.at c.loop-letter.letter (omega arith) c.loop-letter.invariant;
-      next = omega arith;
-    }
+pub returns-in-None-clause-answer : goal.returns-in-None-clause-answer
+returns-in-None-clause-answer c = rw (c.in-None.is) at (told (goal.at.returns-in-None-clause-answer c).After-position)

@@ -7,7 +7,6 @@ use Rattle.pricing.proofs.feasible.repair_all.Given as goal
 
 abbrev pub invariant-loop-place : goal.invariant-loop-place
 invariant-loop-place g l =
-    g.Q.Queue.lawful l.queue
-    × (g.Q.Queue.contents l.queue ≡ empty (capacity_of (g.Q.Queue.contents l.initial.queue)))
+    (g.Q.Queue.contents l.queue ≡ empty (capacity_of (g.Q.Queue.contents l.initial.queue)))
     × (l.ring ≡ l.initial.ring)
-    × Latest (length l.initial.prices) (at l.initial.prices) (loosened l.by.0 (take l.place l.rules)) (at l.prices)
+    × Latest (length l.initial.prices) (at l.initial.prices) (loosened l.loose.by.0 (take l.place l.loose.rules.now)) (at l.prices)

@@ -1,15 +1,6 @@
-use Rattle.pricing.proofs.Lowers.{lowered_none, lowered_on, sized_again}
+use Rattle.rules.specs.Places.{no_rule}
+use Rattle.rules.proofs.Members.{get_or_in}
 use Rattle.pricing.proofs.relaxing.relax_round.Goals as goal
 
-pub loop-place-init : goal.loop-place-init
-loop-place-init c = (c.requires.small, lowered_none c.args.by.0 c.args.rules.now c.args.prices.now)
-
-pub relax-changed-requires : goal.relax-changed-requires
-relax-changed-requires c = record {
-  sized = sized_again c.args.by.0 c.args.rules.now c.args.prices.now c.loop-place.prices c.requires.sized c.loop-place.auto.prices c.loop-place.invariant.0;
-  place = c.loop-place-test.true;
-  small = c.loop-place.invariant.0;
-}
-
-pub loop-place-preserved : goal.loop-place-preserved
-loop-place-preserved c = (c.relax-changed.ensures.small, lowered_on c.args.by.0 c.args.rules.now c.args.prices.now c.loop-place.prices c.relax-changed.new.prices c.loop-place.auto.prices c.loop-place.invariant.1 c.relax-changed.ensures.lowered)
+pub relax-changed-requires-clause-rule : goal.relax-changed-requires-clause-rule
+relax-changed-requires-clause-rule c = get_or_in c.args.loose.now.rules.now c.loop-rule.rule-index no_rule c.loop-rule-test.true

@@ -1,53 +1,38 @@
-use Rattle.std.proofs.Common.{◌≡◌, ℕ, ◌+◌, ◌-◌, List, ◌∷◌, take, ℤ, pos, Option, sym, refl, ap, ◌∙◌, subst, arith}
-use lib.Signed.{lt_z}
-use Rattle.delays.specs.declared.times.Millis.{Millis}
-use Rattle.delays.specs.Numbers.{millis}
+use Rattle.std.proofs.Common.{ℕ, ◌+◌, List, ◌∷◌, take, ℤ, pos, refl, ap, arith, w64, to_z, of_z}
+use Rattle.std.proofs.lemmas.Int.{ints}
+use Rattle.delays.specs.Numbers.{Millis}
 use Rattle.rules.specs.declared.records.Rule.{Rule}
 use Rattle.rules.specs.Meets.{at}
-use Rattle.rules.specs.Places.{rule_at}
 use Rattle.rules.specs.Prices.{reduced_limit, loosen}
-use Rattle.settling.specs.Sizes.{Sized, Feasible}
-use Rattle.pricing.specs.Repairs.{Repaired}
-use Rattle.pricing.proofs.Explores.{is_below}
-use Rattle.pricing.proofs.Mends.{repaired_alike, next_in, next_out, sized_next, stays}
+use Rattle.rules.specs.Places.{no_rule, rule_at}
+use Rattle.rules.proofs.Members.{get_or_in}
+use Rattle.settling.proofs.Reductions.{not_below, no_less}
+use Rattle.pricing.proofs.Mends.{repaired_alike, limited_before, next_in, next_out, sized_next, stays}
 use Rattle.pricing.proofs.repairing.repair.Goals as goal
 
-pub repair_negative-requires : goal.repair_negative-requires
-repair_negative-requires g c =
-    let rules : List Rule = c.args.rules.now in
-    let prices : List ℤ = c.args.prices.now in
-    let place : ℕ = c.args.place in
-    let e : place ≡ place - 0 = omega arith in
-    let is : rule_at rules place ≡ c.rule_at.result = sym c.rule_at.ensures in
-    record {
-      sized = subst (λ (r : Rule). Sized c.args.by.0 (r ∷ take (place - 0) rules) prices) is (subst (λ (j : ℕ). Sized c.args.by.0 (rule_at rules place ∷ take j rules) prices) e (sized_next rules place c.requires.place c.args.by.0 prices c.requires.sized));
-      feasible = subst (λ (j : ℕ). Feasible c.args.by.0 (take j rules) prices) e c.requires.feasible;
-      key = c.reduced_limit-key.ensures ∙ ap (λ (r : Rule). millis (reduced_limit (at prices) (loosen c.args.by.0 r))) is;
-      negative = is_below c.reduced_limit-key.result.0 (pos 0) (sym c.is_negative.ensures ∙ c.if-is_negative.true);
-      capacity = c.requires.capacity;
-      ring = c.requires.ring;
-    }
+pub reduced_limit-key-requires-clause-rule : goal.reduced_limit-key-requires-clause-rule
+reduced_limit-key-requires-clause-rule g c = get_or_in c.args.loose.now.rules.now c.args.place no_rule c.requires.place
 
-pub returns-then-is_negative : goal.returns-then-is_negative
-returns-then-is_negative g c =
-    let rules : List Rule = c.args.rules.now in
-    let place : ℕ = c.args.place in
-    let old : List ℤ = c.args.prices.now in
-    let new : List ℤ = c.repair_negative.new.prices in
-    let before : List ℕ = c.args.ring.now in
-    let after : List ℕ = c.repair_negative.new.ring in
-    let r : Option ℕ = c.repair_negative.result in
-    let e : place - 0 ≡ place = omega arith in
-    record {
-      repaired = repaired_alike c.args.by.0 (rule_at rules place ∷ take place rules) (take (place + 1) rules) old new before after r (next_in rules place c.requires.place) (next_out rules place c.requires.place)
-          (subst (λ (x : Rule). Repaired c.args.by.0 (x ∷ take place rules) old new before after r) c.rule_at.ensures (subst (λ (j : ℕ). Repaired c.args.by.0 (c.rule_at.result ∷ take j rules) old new before after r) e c.repair_negative.ensures.repaired));
-      lawful = c.repair_negative.ensures.lawful;
-      queue = c.repair_negative.ensures.queue;
-    }
+pub invariant_of-before : goal.invariant_of-before
+invariant_of-before g c = record { limited = limited_before c.args.loose.now.by.0 c.args.loose.now.rules.now c.args.place (omega (arith, c.requires.place)) c.args.loose.now.limited }
 
-pub returns-else-is_negative : goal.returns-else-is_negative
-returns-else-is_negative g c = record {
-  repaired = (stays c.args.rules.now c.args.place c.requires.place c.args.by.0 c.args.prices.now c.requires.feasible (ap (λ (m : Millis). lt_z m.0 (pos 0)) (sym c.reduced_limit-key.ensures) ∙ sym c.is_negative.ensures ∙ c.if-is_negative.false), refl);
-  lawful = c.clear.ensures.sound;
-  queue = c.clear.ensures.left;
-}
+pub repair_negative-requires-clause-limit : goal.repair_negative-requires-clause-limit
+repair_negative-requires-clause-limit g c = c.args.loose.now.limited.limits _ (get_or_in c.args.loose.now.rules.now c.args.place no_rule c.requires.place)
+
+pub repair_negative-requires-clause-sized : goal.repair_negative-requires-clause-sized
+repair_negative-requires-clause-sized g c = sized_next c.args.loose.now.rules.now c.args.place c.requires.place c.args.prices.now c.requires.sized
+
+pub returns-then-key-lt0-clause-repaired : goal.returns-then-key-lt0-clause-repaired
+returns-then-key-lt0-clause-repaired g c =
+    let rules : List Rule = c.args.loose.now.rules.now in
+    let place : ℕ = c.args.place in
+    repaired_alike c.args.loose.now.by.0 (rule_at rules place ∷ take place rules) (take (place + 1) rules) c.args.prices.now c.repair_negative.new.prices c.args.ring.now c.repair_negative.new.ring c.repair_negative.result
+    (next_in rules place c.requires.place) (next_out rules place c.requires.place) c.repair_negative.ensures.repaired
+
+pub returns-else-key-lt0-clause-repaired : goal.returns-else-key-lt0-clause-repaired
+returns-else-key-lt0-clause-repaired g c =
+    let rules : List Rule = c.args.loose.now.rules.now in
+    let least = not_below (to_z w64 (of_z w64 c.reduced_limit-key.result.0)) (pos 0) c.if-key-lt0.false in
+    let e = ap (λ (m : Millis). m.0) c.reduced_limit-key.ensures in
+    let reduced : ℤ = reduced_limit (at c.args.prices.now) (loosen c.args.loose.now.by.0 (rule_at rules c.args.place)) in
+    (stays rules c.args.place c.requires.place c.args.loose.now.by.0 c.args.prices.now c.requires.feasible (no_less reduced (pos 0) (omega (arith, ints))), refl)

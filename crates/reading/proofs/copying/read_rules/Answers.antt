@@ -1,5 +1,4 @@
-use Rattle.std.proofs.Common.{◌≡◌, length, refl, arith}
-use Rattle.std.proofs.lemmas.List.{take_all}
+use Rattle.std.proofs.Common.{arith}
 use Rattle.rules.specs.Places.{no_rule}
 use Rattle.reading.proofs.Fronts.{copied_more}
 use Rattle.reading.proofs.copying.read_rules.Goals as goal
@@ -8,9 +7,3 @@ pub loop-place-preserved : goal.loop-place-preserved
 loop-place-preserved g c =
     let rules = (g.B.Book.meaning c.args.book.now).rules in
     rw (c.loop-place.invariant, c.known.ensures) (copied_more rules c.args.records.now c.loop-place.place no_rule (omega arith) (omega arith))
-
-pub returns : goal.returns
-returns g c =
-    let rules = (g.B.Book.meaning c.args.book.now).rules in
-    let all : c.loop-place.place ≡ length rules = omega (arith, c.loop-place.auto.place-end) in
-    rw (c.loop-place.invariant, all, take_all (length rules) rules (omega arith)) refl

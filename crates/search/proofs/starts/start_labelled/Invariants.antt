@@ -3,5 +3,4 @@ use Rattle.queues.specs.Contents.{capacity_of, holds}
 use Rattle.search.proofs.starts.start_labelled.Given as goal
 
 abbrev pub invariant-loop-event : goal.invariant-loop-event
-invariant-loop-event g l = g.Q.Queue.lawful l.queue
-    × (g.Q.Queue.contents l.queue ≡ holds (take l.event l.labels ++ replicate (capacity_of (g.Q.Queue.contents l.initial.queue) - l.event) None) 0)
+invariant-loop-event g l = g.Q.Queue.contents l.queue ≡ holds (take l.event l.labels ++ replicate (capacity_of (g.Q.Queue.contents l.fn.queue) - l.event) None) 0

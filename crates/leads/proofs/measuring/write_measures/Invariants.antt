@@ -1,7 +1,0 @@
-use Rattle.std.proofs.Common.{◌≡◌, ℕ, ◌<◌, get_or, None}
-use Rattle.rules.specs.Meets.{at}
-use Rattle.leads.specs.Labels.{measured}
-use Rattle.leads.proofs.measuring.write_measures.Given as goal
-
-abbrev pub invariant-loop-event : goal.invariant-loop-event
-invariant-loop-event l = (v : ℕ) → v < l.event → get_or l.measures v None ≡ measured (get_or l.labels v None) (at l.prices v) (at l.prices l.source)
