@@ -57,8 +57,6 @@ impl<U> Delay for Amount<U> {
 
     ghost shifted = { Prim.search rules };
 
-    ghost ordered = { Prim.search rules };
-
     ghost size_zero = { Prim.search rules };
 
     ghost size_negated = { Prim.search rules };
@@ -75,5 +73,9 @@ impl<U> Delay for Amount<U> {
 
     fn opposite(self) -> Amount<U> {
         Amount::of(self.0.saturating_neg())
+    }
+
+    fn below(self, other: Amount<U>) -> bool {
+        self < other
     }
 }

@@ -2,7 +2,6 @@
 #![tactic(auto)]
 
 ghost use Rattle.std.specs.Prelude.{◌≡◌, Bool, true, false, ℕ, ◌+◌, ◌≤◌};
-ghost use Rattle.std.specs.Ordering.{partial_lt};
 ghost use Rattle.delays.specs.Exactness.{exact_size};
 
 pub mod amounts;
@@ -15,7 +14,7 @@ pub use pairs::Pair;
 // The ghost members are the kind's mathematics, on unbounded values, and the laws hold of all of them.
 // The methods compute it, exactly while the sizes in a sum or an opposite add to at most 4 × 10^18.
 // Past that they still return, with a value of which nothing is promised.
-pub trait Delay: Copy + Ord {
+pub trait Delay: Copy {
     ghost zero: { Self };
 
     ghost plus: { Self → Self → Self };
@@ -37,10 +36,7 @@ pub trait Delay: Copy + Ord {
 
     // Whether this value is strictly less than the other.
     fn below(self, other: Self) -> bool
-        ensures { result ≡ less self other }
-    {
-        self < other
-    }
+        ensures { result ≡ less self other };
 
     // Sums make a commutative group.
     ghost identity: { (x : Self) → plus zero x ≡ x };
@@ -60,9 +56,6 @@ pub trait Delay: Copy + Ord {
 
     // Adding the same to both sides keeps less, equal and greater as they are.
     ghost shifted: { (x y z : Self) → less (plus z x) (plus z y) ≡ less x y };
-
-    // `<`, as each kind derives it, is less.
-    ghost ordered: { (x y : Self) → partial_lt Self.partial_cmp x y ≡ less x y };
 
     ghost size_zero: { size zero ≡ 0 };
 

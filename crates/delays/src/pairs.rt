@@ -5,7 +5,7 @@ ghost use Rattle.std.proofs.Common.{rules};
 use crate::Delay;
 
 // A delay of any two kinds, compared by the second part where the first parts are equal.
-#[derive(Clone, Copy, PartialEq, Eq, PartialOrd, Ord, Debug)]
+#[derive(Clone, Copy, PartialEq, Eq, Debug)]
 pub struct Pair<X, Y> {
     pub first: X,
     pub second: Y,
@@ -38,8 +38,6 @@ impl<X: Delay, Y: Delay> Delay for Pair<X, Y> {
 
     ghost shifted = { Prim.search rules };
 
-    ghost ordered = { Prim.search rules };
-
     ghost size_zero = { Prim.search rules };
 
     ghost size_negated = { Prim.search rules };
@@ -67,7 +65,7 @@ impl<X: Delay, Y: Delay> Delay for Pair<X, Y> {
         }
     }
 
-    // By hand, since with the derived `<` a heap of pairs takes a sixth longer.
+    // By hand, since with a derived `<` a heap of pairs takes a sixth longer.
     fn below(self, other: Pair<X, Y>) -> bool {
         if self.first.below(other.first) {
             true

@@ -35,6 +35,7 @@ pub(crate) fn exchange<K: Delay>(entries: &mut [Entry<K>], i: usize, j: usize)
     ensures evented { events entries.new ≡ slice_set (slice_set (events entries.old) i (slice_index (events entries.old) j)) j (slice_index (events entries.old) i) }
     ensures placed { places entries.new ≡ slice_set (slice_set (places entries.old) (slice_index (events entries.old) j) i) (slice_index (events entries.old) i) j }
 {
+    // Field by field: a heap that copies whole entries here takes a tenth longer.
     let (event_i, key_i) = (entries[i].event, entries[i].key);
     let (event_j, key_j) = (entries[j].event, entries[j].key);
     entries[i].event = event_j;

@@ -7,7 +7,8 @@ ghost use Rattle.leads.specs.Tellings.{ChainTold};
 use rules::{EventNumber, Rule, RuleNumber};
 use search::trace;
 
-// Writes the numbers of the rules of the chain by parents to the event, and answers how many there are.
+// Writes the numbers of the rules of the chain by parents to the event, and answers how many there are: the list is the caller's, since no call may
+// allocate.
 // Where the parents are those of `lead` from a source that reaches the event, the chain leads from the source and is a shortest one with fewest rules.
 pub fn chain_to(
     rules: &[Rule],

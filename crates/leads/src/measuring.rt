@@ -1,4 +1,4 @@
-// The search from one event, and what its labels tell.
+// The search from one event, and what its labels tell. Measures, parents and the queue are lent one by one: the caller reads each by itself.
 ghost use Rattle.std.specs.Prelude.{◌≡◌, ℕ, ◌<◌, ◌≤◌, length, None, IfSome, slice_index_or};
 ghost use Rattle.rules.specs.Meets.{at};
 ghost use Rattle.queues.specs.Contents.{capacity_of};
@@ -36,6 +36,7 @@ impl PricedRules<'_> {
         requires fits { (v : ℕ) → IfSome (slice_index_or labels.now v None) Fits }
         ensures { (v : ℕ) → slice_index_or measures.new v None ≡ measured (slice_index_or labels.now v None) (at self.now.prices.now v) (at self.now.prices.now self.now.source) }
     {
+        // By index: a proof does not see what a zip over `iter_mut` writes.
         for (event, measure) in measures.iter_mut().enumerate() {
             *measure = self.measure_of(labels[event], event);
         }

@@ -16,6 +16,7 @@ fn write_flags(labels: &[Option<Millis>], reached: &mut [bool])
     requires { length labels.now ≡ length reached.old }
     ensures { (v : ℕ) → slice_index_or reached.new v false ≡ is_some (slice_index_or labels.now v None) }
 {
+    // By index: a proof does not see what a zip over `iter_mut` writes.
     for (event, flag) in reached.iter_mut().enumerate() {
         *flag = labels[event].is_some();
     }

@@ -1,4 +1,4 @@
-// Searches that start from one event, the source.
+// Searches that start from one event, the source. Labels, parents and the queue are lent one by one, as to any search.
 ghost use Rattle.std.specs.Prelude.{◌≡◌, ◌<◌, ◌≤◌, length, None};
 ghost use Rattle.rules.specs.Meets.{EventsBelow};
 ghost use Rattle.queues.specs.Contents.{capacity_of};
@@ -29,9 +29,9 @@ pub(crate) fn search_from<K: Delay, Q: Queue<K>>(
     requires weights { length rules.now ≤ length weights.now }
     requires parents { length parents.old ≡ length labels.old }
     requires capacity { length labels.old ≤ capacity_of (Q.Queue.contents queue.old) }
-    requires rising { NoneNegative (network K.Delay.own rules.now weights.now) }
-    requires exact { Exact (network K.Delay.own rules.now weights.now) (alone (length labels.old) (capacity_of (Q.Queue.contents queue.old)) source K.Delay.zero None) }
-    ensures { Searched (network K.Delay.own rules.now weights.now) (alone (length labels.old) (capacity_of (Q.Queue.contents queue.old)) source K.Delay.zero None) (labelling labels.new parents.new (Q.Queue.contents queue.new)) }
+    requires rising { NoneNegative (network K.Delay rules.now weights.now) }
+    requires exact { Exact (network K.Delay rules.now weights.now) (alone (length labels.old) (capacity_of (Q.Queue.contents queue.old)) source K.Delay.zero None) }
+    ensures { Searched (network K.Delay rules.now weights.now) (alone (length labels.old) (capacity_of (Q.Queue.contents queue.old)) source K.Delay.zero None) (labelling labels.new parents.new (Q.Queue.contents queue.new)) }
 {
     // No call may allocate: the links lie in fixed arrays, and so do labels and parents in the callers.
     let mut heads = [None; MAX_NODES];

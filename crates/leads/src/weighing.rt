@@ -39,6 +39,7 @@ impl PricedRules<'_> {
         requires { length self.now.rules.now ≤ length weights.old }
         ensures { Weighed C.counts self.now.rules.now (at self.now.prices.now) weights.new (length self.now.rules.now) }
     {
+        // By index: a proof does not see what a zip over `iter_mut` writes.
         for (place, rule) in self.rules.iter().enumerate() {
             weights[place] = self.weight_of(counting, *rule);
         }

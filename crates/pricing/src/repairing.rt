@@ -1,4 +1,4 @@
-// Prices repaired for one more rule.
+// Prices repaired for one more rule. The prices are the caller's own list, lent beside the queue and the list for a ring; that they are small stays a clause, since each call changes them.
 ghost use Rattle.std.specs.Prelude.{◌≡◌, ◌+◌, ◌<◌, ◌≤◌, ◌∷◌, length, take, pos, ◌<ℤ◌, unsigned_abs};
 ghost use Rattle.delays.specs.Numbers.{amount};
 ghost use Rattle.rules.specs.Meets.{at, EventsBelow};

@@ -36,6 +36,7 @@ pub(crate) fn least<K: Delay>(slots: &[Slot<K>]) -> Option<(EventNumber, K)>
     requires { length slots.now ≤ 65535 }
     ensures { Least K.Delay.less (slot_keys slots.now) result }
 {
+    // A kind of delay has `below` and owes no `Ord`, which `min_by_key` would ask for.
     let mut best: Option<(EventNumber, K)> = None;
     for (event, slot) in slots.iter().enumerate() {
         if let Some(key) = slot.key

@@ -25,6 +25,7 @@ pub fn link_rules(rules: &[Rule], heads: &mut [Option<u16>], nexts: &mut [Option
 }
 
 // What a search goes by: rules, the weight of the rule at each place, and the places of the rules that leave each event.
+// Weights stand beside the rules, which are the caller's own list: together they would be copied, and no call may allocate.
 #[derive(Drop)]
 pub struct Network<'a, K: Delay> {
     pub rules: &'a [Rule],
@@ -47,7 +48,7 @@ impl<'a, K: Delay> Network<'a, K> {
         requires events { EventsBelow (length heads.old) rules.now }
         requires weights { length rules.now ≤ length weights.now }
         requires nexts { length rules.now ≤ length nexts.old }
-        requires rising { NoneNegative (network K.Delay.own rules.now weights.now) }
+        requires rising { NoneNegative (network K.Delay rules.now weights.now) }
         ensures rules { result.rules.now ≡ rules.now }
         ensures weights { result.weights.now ≡ weights.now }
         ensures heads { length result.links.heads.now ≡ length heads.old }

@@ -1,4 +1,4 @@
-// Labels, parents and a queue for a search to start from.
+// Labels, parents and a queue for a search to start from, each lent by itself, as to the search.
 ghost use Rattle.std.specs.Prelude.{◌≡◌, ◌<◌, ◌≤◌, false, length, Some, None, slice_index_or, slice_set};
 ghost use Rattle.rules.specs.Bounds.{max_count};
 ghost use Rattle.queues.specs.Contents.{capacity_of, holds};
@@ -33,7 +33,7 @@ pub fn start_alone<K: Delay, Q: Queue<K>>(
     requires parents { length parents.old ≡ length labels.old }
     requires capacity { length labels.old ≤ capacity_of (Q.Queue.contents queue.old) }
     ensures started { labelling labels.new parents.new (Q.Queue.contents queue.new) ≡ alone (length labels.old) (capacity_of (Q.Queue.contents queue.old)) event key label }
-    ensures ready { ((z : K) → label ≡ Some z → K.Delay.less z key ≡ false) → Startable K.Delay.own (labelling labels.new parents.new (Q.Queue.contents queue.new)) }
+    ensures ready { ((z : K) → label ≡ Some z → K.Delay.less z key ≡ false) → Startable K.Delay (labelling labels.new parents.new (Q.Queue.contents queue.new)) }
 {
     // A kind of delay promises nothing of `clone`, which `fill` calls.
     labels.fill_with(move || label);
@@ -53,7 +53,7 @@ pub fn start_labelled<K: Delay, Q: Queue<K>>(
     requires parents { length parents.old ≡ length labels.now }
     requires capacity { length labels.now ≤ capacity_of (Q.Queue.contents queue.old) }
     ensures started { labelling labels.now parents.new (Q.Queue.contents queue.new) ≡ all_waiting labels.now (capacity_of (Q.Queue.contents queue.old)) }
-    ensures ready { Startable K.Delay.own (labelling labels.now parents.new (Q.Queue.contents queue.new)) }
+    ensures ready { Startable K.Delay (labelling labels.now parents.new (Q.Queue.contents queue.new)) }
 {
     parents.fill(None);
     queue.clear();

@@ -24,7 +24,8 @@ fn depth(rules: &[Rule], parents: &[Option<u16>], event: EventNumber) -> usize
     count
 }
 
-// Writes the numbers of the rules by which the parents lead to the event, in order of travel, and answers how many there are.
+// Writes the numbers of the rules by which the parents lead to the event, in order of travel, and answers how many there are: the list is the
+// caller's, since no call may allocate.
 pub fn trace(
     rules: &[Rule],
     parents: &[Option<u16>],

@@ -39,6 +39,7 @@ impl<'a> Loosened<'a> {
         requires room { length self.now.rules.now ≤ length weights.old }
         ensures { Weighed self.now.by.0 self.now.rules.now prices.now weights.new }
     {
+        // By index: a proof does not see what a zip over `iter_mut` writes.
         for (place, rule) in self.rules.iter().enumerate() {
             weights[place] = self.reduced_limit(prices, *rule);
         }

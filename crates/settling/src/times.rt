@@ -22,6 +22,7 @@ fn oppose(prices: &[i64], labels: &mut [Option<Millis>])
     requires labels { length labels.old ≡ length prices.now }
     ensures { Opposed prices.now labels.new }
 {
+    // By index: a proof does not see what a zip over `iter_mut` writes.
     for (event, label) in labels.iter_mut().enumerate() {
         *label = Some(Millis::of(-prices[event]));
     }
@@ -34,6 +35,7 @@ pub fn raise_all(labels: &[Option<Millis>], prices: &mut [i64])
     requires exact { (v : ℕ) (k : Millis) → slice_index_or labels.now v None ≡ Some k → unsigned_abs k.0 ≤ exact_size }
     ensures { Raised prices.old labels.now prices.new }
 {
+    // By index: a proof does not see what a zip over `iter_mut` writes.
     for (event, price) in prices.iter_mut().enumerate() {
         if let Some(key) = labels[event] {
             *price += key.0;
