@@ -1,7 +1,7 @@
 ghost use Rattle.std.specs.Prelude.{◌≡◌, min, take};
 ghost use Rattle.rules.specs.Bounds.{max_count};
 
-use crate::{Book, front};
+use crate::Book;
 use rules::{Refusal, Rule};
 
 // A book over rule records handed over. It tells at most the first 65,535.
@@ -29,9 +29,10 @@ impl<'a> Book for Listed<'a> {
     }
 
     fn rule(&self, place: u16) -> Result<Rule, Refusal> {
-        front(self.rules, u16::MAX as usize)
-            .get(place as usize)
-            .copied()
-            .ok_or(Refusal::PlacePast)
+        if place < self.count() {
+            Ok(self.rules[place as usize])
+        } else {
+            Err(Refusal::PlacePast)
+        }
     }
 }

@@ -1,2 +1,3 @@
 pub mod Repairs
 pub mod Starts
+pub mod Texts

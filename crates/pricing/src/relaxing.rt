@@ -1,13 +1,27 @@
 // Rounds of relaxation: prices lowered rule by rule.
+ghost use Rattle.std.specs.Prelude.{◌≤◌, pos, ◌+ℤ◌, ◌≤ℤ◌, ◌<ℤ◌, unsigned_abs};
 ghost use Rattle.rules.specs.Meets.{◌∈◌};
 ghost use Rattle.settling.specs.Sizes.{Sized};
-ghost use Rattle.pricing.specs.Starts.{Small, Lowered};
+ghost use Rattle.pricing.specs.Starts.{start_size, Small, Lowered};
 
+use delays::Millis;
 use rules::Rule;
 use settling::Loosened;
 
 // No relaxation lowers a price below this.
 const LEAST_PRICE: i64 = -500_000_000_000_000;
+
+// A price lowered by a negative reduced limit, but not below the least price.
+fn fall(price: i64, reduced: Millis) -> i64
+    requires price { unsigned_abs price ≤ start_size }
+    requires reduced { unsigned_abs reduced.0 ≤ 3_000_000_000_000_000 }
+    requires negative { reduced.0 <ℤ pos 0 }
+    ensures small { unsigned_abs result ≤ start_size }
+    ensures early { result ≤ℤ price }
+    ensures kept { (price +ℤ reduced.0) ≤ℤ result }
+{
+    (price + reduced.0).max(LEAST_PRICE)
+}
 
 // Lowers the price of the rule's second event, where the rule's reduced limit is negative, and answers whether it is.
 fn relax(loose: &Loosened, rule: Rule, prices: &mut [i64]) -> bool
@@ -20,7 +34,7 @@ fn relax(loose: &Loosened, rule: Rule, prices: &mut [i64]) -> bool
     let reduced = loose.reduced_limit(prices, rule);
     if reduced.0 < 0 {
         let price = &mut prices[rule.second as usize];
-        *price = (*price + reduced.0).max(LEAST_PRICE);
+        *price = fall(*price, reduced);
         true
     } else {
         false

@@ -1,4 +1,7 @@
 // Negative rings that a call was refused by.
+ghost use Rattle.std.specs.Prelude.{Some};
+ghost use Rattle.pricing.specs.Texts.{ring_text};
+
 use std::error::Error;
 use std::fmt;
 
@@ -9,6 +12,8 @@ pub struct Ring {
 }
 
 impl fmt::Display for Ring {
+    ghost output = { λ ring. Some (ring_text ring) };
+
     fn fmt<W: fmt::Write>(&self, f: &mut fmt::Formatter<W>) -> fmt::Result {
         write!(f, "a negative ring of {} rules", self.size)
     }

@@ -2,7 +2,7 @@
 
 #![tactic(auto)]
 
-ghost use Rattle.std.specs.Prelude.{◌≡◌, ◌≤◌, length, unsigned_abs};
+ghost use Rattle.std.specs.Prelude.{◌≡◌, ◌≤◌, length, replicate, pos, unsigned_abs};
 ghost use Rattle.rules.specs.declared.records.Rule.{Rule};
 ghost use Rattle.rules.specs.Meets.{◌∈◌, EventsBelow};
 ghost use Rattle.queues.specs.Contents.{capacity_of};
@@ -15,6 +15,33 @@ use pricing::{Ring, prices};
 use queues::Queue;
 use rules::{Rule, RuleNumber};
 use settling::{Loosened, MAX_NODES, settle};
+
+// Settles with a list for prices, all of them 0.
+fn settle_from<Q: Queue<Millis>>(
+    rules: &[Rule],
+    start: &mut [i64],
+    times: &mut [i64],
+    queue: &mut Q,
+    ring: &mut [RuleNumber],
+) -> Result<(), Ring>
+    requires start { start.old ≡ replicate (length times.old) (pos 0) }
+    requires few_events { length times.old ≤ max_nodes }
+    requires few_rules { length rules.now ≤ max_edges }
+    requires events { EventsBelow (length times.old) rules.now }
+    requires limits { (r : Rule) → r ∈ rules.now → unsigned_abs r.limit ≤ limit_size }
+    requires capacity { length times.old ≤ capacity_of (Q.Queue.contents queue.old) }
+    requires ring { length times.old ≤ length ring.old }
+    ensures settles { Settles rules.now times.old times.new ring.old ring.new result }
+    ensures queue { QueueLeft (length times.old) (Q.Queue.contents queue.old) (Q.Queue.contents queue.new) result }
+{
+    let loose = Loosened {
+        rules,
+        by: Millis::of(0),
+    };
+    prices(&loose, start, queue, ring)?;
+    settle(&loose, start, queue, times);
+    Ok(())
+}
 
 // Writes the settled times of the rules, one for each entry of the list. Where no times meet the rules, answers a negative ring, and writes the
 // numbers of its rules, in order. The queue may be in any state.
@@ -38,13 +65,7 @@ pub fn settle_rules<Q: Queue<Millis>>(
     let start = &mut start[..times.len()];
     // All are 0 already; the call says so of the part.
     start.fill(0);
-    let loose = Loosened {
-        rules,
-        by: Millis::of(0),
-    };
-    prices(&loose, start, queue, ring)?;
-    settle(&loose, start, queue, times);
-    Ok(())
+    settle_from(rules, start, times, queue, ring)
 }
 
 // The same with a heap of its own.

@@ -10,33 +10,55 @@ struct Event {
     lowered_by: Option<Rule>,
 }
 
-// The times of the events, on their way down from 0 or settled: an entry for each event that a book can have, since no call may allocate.
-#[derive(Drop)]
+// A time for each event, in milliseconds.
+#[derive(Clone, Copy)]
 pub struct Times {
-    events: [Event; MAX_EVENTS as usize],
+    all: [i64; MAX_EVENTS as usize],
 }
 
 impl Times {
+    // The time of an event, or 0 past the last.
+    pub fn of(&self, event: EventNumber) -> i64 {
+        self.all.get(event as usize).copied().unwrap_or(0)
+    }
+}
+
+// The events, their times on the way down from 0: an entry for each event that a book can have, since no call may allocate.
+#[derive(Drop)]
+struct Relaxed {
+    events: [Event; MAX_EVENTS as usize],
+}
+
+impl Relaxed {
     fn new() -> Self {
         let event = Event {
             time: 0,
             lowered_by: None,
         };
-        Times {
+        Relaxed {
             events: [event; MAX_EVENTS as usize],
         }
     }
 
     // The time of an event, or 0 past the last.
-    pub fn of(&self, event: EventNumber) -> i64 {
+    fn time_of(&self, event: EventNumber) -> i64 {
         self.events
             .get(event as usize)
             .map_or(0, |event| event.time)
     }
 
+    // The times alone.
+    fn times(&self) -> Times {
+        let mut all = [0; MAX_EVENTS as usize];
+        for (time, event) in all.iter_mut().zip(self.events.iter()) {
+            *time = event.time;
+        }
+        Times { all }
+    }
+
     // Lowers the rule's second event if it comes too late; the event, if it was lowered.
     fn relax(&mut self, rule: Rule) -> Option<EventNumber> {
-        let time = self.of(rule.first).saturating_add(rule.limit as i64);
+        let time = self.time_of(rule.first).saturating_add(rule.limit as i64);
         let event = self.events.get_mut(rule.second as usize)?;
         if event.time <= time {
             return None;
@@ -90,17 +112,17 @@ impl Times {
 // events, so after as many passes as events nothing is lowered any more, unless some ring is negative. Then the
 // rules that lowered each event last, followed back for as many steps as there are events, lead onto such a ring.
 pub fn settle<B: Book>(book: &B) -> Result<Times, Refusal> {
-    let mut times = Times::new();
+    let mut relaxed = Relaxed::new();
     let events = book.events();
     let mut lowered = None;
     for _ in 0..events {
-        lowered = times.pass(book);
+        lowered = relaxed.pass(book);
         if lowered.is_none() {
             break;
         }
     }
     match lowered {
-        None => Ok(times),
-        Some(event) => Err(Refusal::Unmeetable(times.ring_size(times.on_ring(event, events)))),
+        None => Ok(relaxed.times()),
+        Some(event) => Err(Refusal::Unmeetable(relaxed.ring_size(relaxed.on_ring(event, events)))),
     }
 }

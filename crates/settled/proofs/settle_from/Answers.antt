@@ -1,5 +1,5 @@
-use Rattle.std.proofs.Common.{◌≡◌, ℕ, List, length, refl, subst, ap, ◌∙◌}
-use Rattle.std.proofs.lemmas.List.{length-take-le}
+use Rattle.std.proofs.Common.{◌≡◌, ℕ, List, length, ℤ, pos, refl, subst, ap, ◌∙◌}
+use Rattle.std.proofs.lemmas.List.{length-replicate}
 use Rattle.std.proofs.lemmas.Result.{err_from_is_err_and}
 use Rattle.delays.specs.Numbers.{Millis}
 use Rattle.rules.specs.declared.records.Rule.{Rule}
@@ -9,7 +9,7 @@ use Rattle.rules.specs.Prices.{loosened}
 use Rattle.pricing.specs.declared.rings.Ring.{Ring}
 use Rattle.pricing.specs.Repairs.{Shown}
 use Rattle.pricing.proofs.Loosened.{loosened_none}
-use Rattle.settled.proofs.settle_rules.Goals as goal
+use Rattle.settled.proofs.settle_from.Goals as goal
 
 pub returns-in_err-prices-clause-settles : goal.returns-in_err-prices-clause-settles
 returns-in_err-prices-clause-settles g c =
@@ -21,7 +21,7 @@ returns-in_err-prices-clause-settles g c =
 
 pub returns-clause-settles : goal.returns-clause-settles
 returns-clause-settles g c =
-    let n : length c.prices.new.prices ≡ length c.args.times.now = c.prices.auto.prices ∙ c.fill.auto.self ∙ length-take-le (length c.args.times.now) _ c.requires.few_events in
+    let n : length c.prices.new.prices ≡ length c.args.times.now = c.prices.auto.prices ∙ ap length c.requires.start ∙ length-replicate {A = ℤ} (length c.args.times.now) (pos 0) in
     let same : loosened c.of.result.0 c.args.rules.now ≡ c.args.rules.now = ap (λ (m : Millis). loosened m.0 c.args.rules.now) c.of.ensures ∙ loosened_none c.args.rules.now in
     let settled : Settled (length c.prices.new.prices) c.args.rules.now (at c.settle.new.times) = subst (λ (rs : List Rule). Settled (length c.prices.new.prices) rs (at c.settle.new.times)) same c.settle.ensures.settled in
     (subst (λ (k : ℕ). Settled k c.args.rules.now (at c.settle.new.times)) n settled, c.in_ok-prices.ensures.priced.2)
