@@ -3,11 +3,11 @@ use books::{Book, known};
 use rules::bounds::MAX_EVENTS;
 use rules::{EventNumber, Refusal, Rule};
 
-// An event's time in milliseconds, and the rule that lowered it last.
+// An event's time in milliseconds, and the first event of the rule that lowered it last.
 #[derive(Clone, Copy)]
 struct Event {
     time: i64,
-    lowered_by: Option<Rule>,
+    lowered_from: Option<EventNumber>,
 }
 
 // A time for each event, in milliseconds.
@@ -33,7 +33,7 @@ impl Relaxed {
     fn new() -> Self {
         let event = Event {
             time: 0,
-            lowered_by: None,
+            lowered_from: None,
         };
         Relaxed {
             events: [event; MAX_EVENTS as usize],
@@ -65,7 +65,7 @@ impl Relaxed {
         }
         *event = Event {
             time,
-            lowered_by: Some(rule),
+            lowered_from: Some(rule.first),
         };
         Some(rule.second)
     }
@@ -84,8 +84,8 @@ impl Relaxed {
     fn before(&self, event: EventNumber) -> EventNumber {
         self.events
             .get(event as usize)
-            .and_then(|event| event.lowered_by)
-            .map_or(event, |rule| rule.first)
+            .and_then(|event| event.lowered_from)
+            .unwrap_or(event)
     }
 
     // An event on the ring that is met on the way back from an event, in so many steps.
